@@ -24,7 +24,7 @@ FULL = (errno.ENOSPC, errno.EFBIG, errno.EDQUOT)  # of a write alone
 WRITING = (*FULL, errno.EIO, errno.EBADF)  # of a write, whose file has no name where it is standard output
 PROGRESS_AFTER = 2  # seconds
 LONGEST, MOST_TOLD = 4000, 200  # letters of a line, and of an exception
-NO_THREAD = "can't start new thread"  # Python's RuntimeError has no kind of its own for this
+NO_ROOM = ("can't start new thread", "failed to map segment")  # Python's RuntimeError and ImportError have no kinds of their own
 NAME = ["hinge"]  # as the user typed it, with the command
 CLOSED = list[int]()  # the standard streams that were closed at first
 
@@ -111,7 +111,9 @@ def outcome(main: Callable[[], object]) -> tuple[int, str]:
     except MemoryError:
         return FILES, "the system: there is no memory for this"
     except Exception as error:
-        if str(error) == NO_THREAD:
+        if isinstance(error, SystemError) or any(
+            why in str(error) for why in NO_ROOM
+        ):  # as modules end for which there is no memory
             return FILES, f"the system: {error}"
         note_defect()
         why = f"{type(error).__name__}: {error}"[:MOST_TOLD]

@@ -50,7 +50,10 @@ FILES = {
 PAGE = 1 << 16  # bytes, more than those of a page of counts
 COMMANDS = [
     *([*HINGE, *words] for words in (["help"], ["check", "c", "p"], ["ipfw", "s.sh"], ["why", "1", "c", "p"])),
-    *([*HINGE, *words] for words in (["packets", CAPTURE], ["try"], ["net", "n.net", "--dry-run"], ["packets", "missing"])),
+    *(
+        [*HINGE, *words]
+        for words in (["packets", CAPTURE], ["try"], ["doctor"], ["net", "n.net", "--dry-run"], ["packets", "missing"])
+    ),
     [*HINGE, "run", "--quiet", "--link", "1ms", "--", "sh", "-c", TOLD],
     [*HINGE, "run", "--quiet", "--server", "sleep 9", "--server-wait", "10ms", "--", "true"],
     [*HINGE, "net", "--quiet", "n.net"],
@@ -79,7 +82,7 @@ SCARCE: dict[str, Callable[[], None]] = {
     "standard input is a folder": partial(os.dup2, os.open("/", os.O_RDONLY), 0),
     **{
         f"at most {most} of {name}": partial(resource.setrlimit, getattr(resource, name), (most, most))
-        for name, most in (("RLIMIT_NOFILE", 20), ("RLIMIT_FSIZE", 0), ("RLIMIT_AS", 30 << 20))
+        for name, most in (("RLIMIT_NOFILE", 20), ("RLIMIT_FSIZE", 0), ("RLIMIT_AS", 30 << 20), ("RLIMIT_AS", 22 << 20))
     },
 }
 NO_REASON = (1, 70)  # of a verdict, and of a defect

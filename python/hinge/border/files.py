@@ -28,11 +28,11 @@ NO_TEXT = "it isn't UTF-8"
 TOO_DEEP, TOO_LARGE = "its parts are too deep in one another", "it takes more memory than there is"
 
 
-class Exceeded(Exception):
+class Exceeded(Fault):
     """Raised when a file exceeds its budget; `untrusted` adds the file's name."""
 
     def __init__(self, most: int, what: str) -> None:
-        super().__init__(f"it has more than {most:,} {what}")
+        super().__init__(f"it has more than {most:,} {what}", ROWS)
 
 
 class Budget:
@@ -61,10 +61,10 @@ def untrusted(name: Name, status: int = ROWS, what: str = "") -> Iterator[None]:
     that names the file, and its expected content if `what` states the content."""
     try:
         yield
-    except (Fault, ImportError):
-        raise
     except Exceeded as error:
         raise Fault(f"{told_name(name)}: {error}", status) from None
+    except (Fault, ImportError):
+        raise
     except OSError as error:
         if error.filename is not None:
             raise

@@ -20,6 +20,7 @@ PREFIX = ".hinge-"
 IN_MEMORY = "/dev/shm"
 MANY = 1 << 20  # bytes
 MARK = ".mark"  # the file by which a folder is the kit's; a name alone says nothing
+PAUSE = 0.05  # s between trials of a lock
 TOGETHER = 1.0  # s in which signals are one
 # The signals that end a process, with what Python has them do at first.
 USUAL = {signal.SIGINT: signal.default_int_handler, signal.SIGTERM: signal.SIG_DFL, signal.SIGHUP: signal.SIG_DFL}
@@ -38,6 +39,22 @@ def holding(path: Union[str, Path]) -> Iterator[int]:
         yield descriptor
     finally:
         os.close(descriptor)
+
+
+@contextmanager
+def alone(folder: str, patience: float) -> Iterator[None]:
+    """Locks a folder for those who take a name in it. BlockingIOError: another program keeps the lock for so many seconds."""
+    until = time.monotonic() + patience
+    with holding(folder) as place:
+        while True:
+            try:
+                fcntl.flock(place, fcntl.LOCK_EX | fcntl.LOCK_NB)
+                break
+            except BlockingIOError:
+                if time.monotonic() > until:
+                    raise
+                time.sleep(PAUSE)
+        yield
 
 
 class Ended(BaseException):

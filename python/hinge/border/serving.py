@@ -4,7 +4,6 @@ the run begins, so that no want of threads, descriptors or memory that comes lat
 from __future__ import annotations
 
 import errno
-import fcntl
 import os
 import resource
 import select
@@ -13,14 +12,14 @@ import stat
 import threading
 import time
 from collections import deque
-from contextlib import contextmanager, suppress
+from contextlib import suppress
 from dataclasses import dataclass, field, replace
-from typing import Callable, Iterator, NamedTuple, Optional, Sequence
+from typing import Callable, NamedTuple, Optional, Sequence
 
 from hinge.border.asking import reached
 from hinge.border.messages import Order, Reply, Strange, line_of, read_message
 from hinge.border.peers import is_own, within
-from hinge.border.scratch import PREFIX, held, undisturbed
+from hinge.border.scratch import PREFIX, alone, held, undisturbed
 from hinge.border.terminal import note_defect
 from hinge.run.system import exchange
 from hinge.run.words import Wrong
@@ -106,31 +105,13 @@ def is_dead(path: str) -> bool:
     return stat.S_ISSOCK(result.st_mode) and result.st_uid == os.geteuid() and reached(path) == errno.ECONNREFUSED
 
 
-@contextmanager
-def alone(folder: str) -> Iterator[None]:
-    """Locks a folder for the runs that take a name in it. BlockingIOError: another program keeps the lock."""
-    place, until = os.open(folder, os.O_RDONLY | os.O_DIRECTORY | os.O_CLOEXEC), time.monotonic() + PATIENCE
-    try:
-        while True:
-            try:
-                fcntl.flock(place, fcntl.LOCK_EX | fcntl.LOCK_NB)
-                break
-            except BlockingIOError:
-                if time.monotonic() > until:
-                    raise
-                time.sleep(PAUSE)
-        yield
-    finally:
-        os.close(place)
-
-
 def take(own: str, path: str) -> None:
     """Gives a socket its name. A name of a killed run goes to one run at a time: of three that exchange sockets at once, each could
     lose the name. FileExistsError: a run or a file has the name, perhaps since a moment."""
     try:
         os.link(own, path)
     except FileExistsError:
-        with alone(os.path.dirname(path) or "."):
+        with alone(os.path.dirname(path) or ".", PATIENCE):
             if not is_dead(path):
                 raise
             exchange(own, path)

@@ -45,6 +45,13 @@ def judged_part(line: Union[bytes, str]) -> bytes:
     return text[:MOST_LINE_BYTES]
 
 
+def refuse_long(places: Iterable[str], lines: Iterable[str]) -> None:
+    """Fault: a line is too long for a live session; the message begins with its place."""
+    for place, line in zip(places, lines):
+        with untrusted(place, CONFIGURATION):
+            judged_part(line)
+
+
 def session_of(lines: Iterable[Union[bytes, str]]) -> Iterator[str]:
     """Yields the program's replies to lines in a single session, in which earlier lines affect later ones."""
     with unnamed() as (inputs, _):
@@ -97,9 +104,7 @@ def refuse_wrong(texts: Sequence[str], numbers: Sequence[int], file: str, option
         return f"{file}:{numbers[at]}" if numbers[at] else option
 
     first = ""
-    for at, text in enumerate(texts):
-        with untrusted(place(at), CONFIGURATION):
-            judged_part(text)
+    refuse_long(map(place, range(len(texts))), texts)
     try:
         # the whole answer, as a program that was ended says nothing of the lines
         for record in session_of(texts) if texts else ():

@@ -8,7 +8,7 @@ from decimal import Decimal, InvalidOperation
 from typing import Iterable, Iterator, NamedTuple, Optional
 
 from hinge.border.files import Budget, Exceeded
-from hinge.checks.lines import judged_lines
+from hinge.checks.lines import judged_lines, refuse_long
 
 ASSIGNMENT = re.compile(r"""(?:export\s+)?([A-Za-z_]\w*)=("[^"]*"|'[^']*'|[^\s;'"]*)""")
 VARIABLE = re.compile(r"\$\{([A-Za-z_]\w*)(?::?-([^}]{0,99}))?\}|\$([A-Za-z_]\w*)")
@@ -152,6 +152,7 @@ class Conversion:
         """Keeps the lines that dummynet accepts, as judged in one session."""
         waiting, self.candidates = self.candidates, []
         items = []
+        refuse_long((one.place for one in waiting), (one.line for one in waiting))
         for verdict in judged_lines([one.line.encode() for one in waiting]) if waiting else ():
             one = waiting[verdict.line - 1]
             if verdict.name == "ok":

@@ -11,7 +11,7 @@ from typing import Iterator
 
 from hinge.border.files import MOST_SAID, Budget, untrusted
 from hinge.captures.rule_words import NETS
-from hinge.checks.lines import judged_lines
+from hinge.checks.lines import judged_lines, refuse_long
 from hinge.events.kinds import Act, Event, HostAct, Moment, NewLine, NewWords, TimedEvent, fault_ends, kept
 from hinge.events.parsed import read_event
 from hinge.net.description import Description
@@ -200,7 +200,8 @@ class NetPlan:
     def judge(self) -> None:
         """Lets the emulator check all lines in order before anything starts. Unobeyed: it rejects a line."""
         sequence = sorted(sorted(self.places, key=itemgetter(1)), key=itemgetter(0))  # by keys of which none is made
-        for verdict in judged_lines([line for _, _, line, _ in sequence]):
+        refuse_long((one.place for *_, one in sequence), lines := [line for _, _, line, _ in sequence])
+        for verdict in judged_lines(lines):
             _, _, line, statement = sequence[verdict.line - 1]
             where = f"{statement.path} line {statement.number}"
             if verdict.name == "bad":

@@ -2,15 +2,30 @@
 
 from __future__ import annotations
 
-from bisect import bisect_left, insort
+from bisect import bisect_left, bisect_right, insort
+from collections import defaultdict
 from fractions import Fraction
+from itertools import accumulate, product
 from typing import Optional
 
-from hinge.plans.meaning import Event
+from hinge.plans.meaning import NEVER, Event
 from hinge.plans.spelling import Options, options_of
 
 
 LEAST_LOSS = str(Fraction("0.000000000465661288"))  # that of packets which a cut of a port chooses
+Port = tuple[str, ...]  # the protocol and the port of packets, or nothing for all packets
+ANY: Port = ("",)  # any port that a line cuts
+
+
+def joined(spans: list[tuple[int, int]]) -> list[int]:
+    """Returns the moments at which spans of time begin and end by turns, where they are joined."""
+    turns = list[int]()
+    for begin, end in sorted(spans):
+        if turns and begin <= turns[-1]:
+            turns[-1] = max(turns[-1], end)
+        else:
+            turns += [begin, end]
+    return turns
 
 
 class Course:
@@ -18,13 +33,30 @@ class Course:
 
     def __init__(self) -> None:
         self.lines: list[Event] = []
-        self.cuts: list[Event] = []  # and heals
+        self.cuts: list[Event] = []
+        self.heals = defaultdict[Port, list[Event]](list)
         self.holds: list[Event] = []
+        self.longest: list[Event] = []  # of the holds up to each
         self.turns: set[int] = set()  # the moments of cuts and heals
+        self.ports: set[Port] = set()
+        self.cut: dict[
+            tuple[Port, bool], list[int]
+        ] = {}  # the moments at which a port is cut and isn't by turns: certainly, or perhaps
 
     def add(self, event: Event) -> None:
-        insort({"line": self.lines, "hold": self.holds}.get(event.kind, self.cuts), event)
-        self.turns |= {event.moment, event.end} if event.kind in ("cut", "heal") else set()
+        if event.kind in ("cut", "heal"):
+            self.turns |= {event.moment, event.end}
+            self.ports |= {event.port} - {()}
+            self.cut.clear()
+        insort({"line": self.lines, "hold": self.holds, "cut": self.cuts}.get(event.kind, self.heals[event.port]), event)
+        self.longest.clear()
+
+    def hold(self, until: int) -> Optional[Event]:
+        """Returns the hold that ends last, of those before a moment."""
+        if not self.longest:
+            self.longest += accumulate(self.holds, lambda one, other: other if other.end > one.end else one)
+        before = bisect_left(self.holds, (until,))
+        return self.longest[before - 1] if before else None
 
     def latest(self, moment: int) -> Optional[Event]:
         """The last line up to a moment."""
@@ -41,36 +73,52 @@ class Course:
                 return result
         return [*result, None]
 
-    def ports(self) -> set[tuple[str, ...]]:
-        return {one.port for one in self.cuts if one.port}
+    def begins_hold(self, moment: int) -> bool:
+        place = bisect_left(self.holds, (moment,))
+        return place < len(self.holds) and self.holds[place].moment == moment
 
-    def is_cut(self, moment: int, port: tuple[str, ...] = ()) -> set[bool]:
+    def ports_of(self, packet: list[str]) -> list[Port]:
+        """Returns the ports of a packet that lines cut or heal."""
+        return sorted({(packet[2], port) for port in packet[3:5]} & self.ports)
+
+    def spans(self) -> dict[tuple[Port, bool], list[tuple[int, int]]]:
+        """Returns when each cut goes on, certainly or perhaps: up to its end, or to the first heal behind it."""
+        result = defaultdict[tuple[Port, bool], list[tuple[int, int]]](list)
+        heals: dict[tuple[Port, int], list[int]] = {
+            (port, doubt): [
+                *accumulate((one.moment + doubt * one.doubt for one in of_port[::-1]), lambda one, other: min(one, other))
+            ][::-1]
+            for port, of_port in self.heals.items()
+            for doubt in (0, 1)
+        }
+        for cut, doubt in product(self.cuts, (0, 1)):
+            behind = [(port, bisect_left(self.heals[port], cut)) for port in {(), cut.port}]
+            ends = [end for port, place in behind for end in heals.get((port, doubt), [])[place : place + 1]]
+            begin, end = cut.moment + (1 - doubt) * cut.doubt, min(cut.end + doubt * cut.doubt, *ends, NEVER)
+            for port in (cut.port, *[ANY] * bool(cut.port)):
+                result[port, not doubt] += [(begin, end)] * (begin < end)
+        return result
+
+    def is_cut(self, moment: int, port: Port = ()) -> set[bool]:
         """Returns whether a way is cut after all changes at a moment, for all or a port's packets; both values in case of doubt."""
-        events = self.cuts[: bisect_left(self.cuts, (moment + 1,))]  # those to come are many where a seed draws for an hour
+        if not self.cut and self.cuts:
+            self.cut = {key: joined(spans) for key, spans in self.spans().items()}
+        known, perhaps = (bisect_right(self.cut.get((port, is_known), []), moment) % 2 == 1 for is_known in (True, False))
+        return {True} if known else {False, perhaps}
 
-        def heals(cut: Event, doubt: int) -> bool:
-            return any(
-                one.kind == "heal" and one.port in ((), port) and one[:2] > cut[:2] and one.moment + one.doubt * doubt <= moment
-                for one in events
-            )
-
-        cuts = [one for one in events if one.kind == "cut" and one.port == port and moment < one.end + one.doubt]
-        known = [one for one in cuts if one.moment + one.doubt <= moment < one.end and not heals(one, 0)]
-        return {True} if known else {False, any(not heals(one, 1) for one in cuts)}
-
-    def cut_at(self, moment: int, port: tuple[str, ...] = ()) -> Event:
+    def cut_at(self, moment: int, port: Port = ()) -> Event:
         """A cut that goes on at a moment."""
-        return next(one for one in self.cuts if (one.kind, one.port) == ("cut", port) and one.moment <= moment < one.end)
+        return next(one for one in self.cuts if one.port == port and one.moment <= moment < one.end)
 
     def fits(self, options: Options, moment: int, is_past: bool, is_paced: bool) -> bool:
         """Returns whether the target may have a line at a moment: after all changes at that moment, or also before. If `is_paced`,
         more than lines decide the bandwidth."""
         is_turn = not is_past and moment in self.turns
         cuts = {False, True} if is_turn else self.is_cut(moment)
-        of_ports = [{False, True} if is_turn else self.is_cut(moment, port) for port in self.ports()]
+        of_ports = {False, bool(self.ports)} if is_turn else self.is_cut(moment, ANY)
         losses = [{"plr": "1"}] * (True in cuts)
-        losses += [{"plr": LEAST_LOSS}] * (False in cuts and any(True in one for one in of_ports))
-        losses += [{}] * (False in cuts and all(False in one for one in of_ports))
+        losses += [{"plr": LEAST_LOSS}] * (False in cuts and True in of_ports)
+        losses += [{}] * (False in cuts and False in of_ports)
 
         def bare(one: Options) -> Options:
             return one and {key: text for key, text in one.items() if not is_paced or key != "bw"}

@@ -4,6 +4,7 @@ values, and nothing else happened."""
 
 from __future__ import annotations
 
+import re
 from collections import defaultdict
 from heapq import heapify, heappop, heappush
 from typing import Iterable, Iterator, Optional
@@ -17,6 +18,7 @@ from hinge.plans.spelling import Options, Target, options_of
 NOBODY = "255"  # the protocol of the packet of an outage
 ENTRIES_TOLD = 3  # the first format of a net's transcript with remarks of `hinge exec`
 DOUBT = 100 * MS  # in which what the control socket is asked for is done
+WORDS_OF_CUT = re.compile("(?= ((?:cut|heal)[^`]*)`)")  # in the place of a line
 WORD = 6  # the place of a packet's random word
 
 
@@ -30,6 +32,7 @@ class Judge(OfHosts):
         self.unjudged: list[tuple[Target, Options, str]] = []  # lines before the next moment
         self.of = defaultdict[Target, Course](Course)
         self.due: list[tuple[int, int, Event]] = []  # what is to be looked at, and when
+        self.lines_of_cuts: set[tuple[int, str]] = set()  # the words of lines that cut or heal, and their moments
         self.note(meaning.events)
         self.asked: set[str] = set()  # the last change by the control socket
         self.before: Optional[tuple[Target, Options, str]] = None  # what a line changes that the links haven't answered yet
@@ -47,6 +50,7 @@ class Judge(OfHosts):
 
     def note(self, events: list[Event]) -> None:
         self.note_acts(events)
+        self.lines_of_cuts |= {(one.moment, words) for one in events for words in WORDS_OF_CUT.findall(one.where)}
         for one in (one for one in events if not one.host):
             self.of[one.target].add(one)
             for moment in (one.moment, one.end) if one.kind != "hold" else ():
@@ -56,7 +60,8 @@ class Judge(OfHosts):
         """Returns whether a line is requested at a moment. During a hold, which may begin up to another hold, a pipe has the rates
         of the waiting packets, and then the last packet's rate up to its next line."""
         of, since = self.of[target], self.configured_at.get(target, 0)
-        is_paced = target in self.paced or any(one.moment <= until and since < one.end for one in of.holds)
+        hold = of.hold(until + 1)
+        is_paced = target in self.paced or hold is not None and since < hold.end
         return of.fits(options, moment, is_past, is_paced)
 
     # What the transcript says.
@@ -131,7 +136,7 @@ class Judge(OfHosts):
         number = int((self.in_force.get(target) or {}).get("pipe", 0)) if target[0] == "queue" else target[1]
         pipe: Target = ("pipe", number)
         if packet[2] == NOBODY:
-            if number not in self.meaning.traced and moment not in [one.moment for one in self.of[pipe].holds]:
+            if number not in self.meaning.traced and not self.of[pipe].begins_hold(moment):
                 self.fault(moment, f"an outage of {self.name(pipe)} isn't {self.meaning.said}'s")
         elif number > 2 * len(self.meaning.links):
             self.passed_again(moment, pipe, rest.split(",")[2] if outcome == "queued" else "")
@@ -143,14 +148,12 @@ class Judge(OfHosts):
         self.packets += 1
         course = self.of[pipe]
         self.drawn(pipe[1], moment, packet, number)
-        ports = [port for port in course.ports() if packet[2] == port[0] and port[1] in packet[3:5]]
-        for port in [(), *ports] if number else ():
+        for port in [(), *course.ports_of(packet)] if number else ():
             if course.is_cut(moment, port) == {True} == course.is_cut(moment - 1, port):
                 way = f"one from {packet[0]} to {packet[1]} passed by {target[0]} {target[1]}"
                 self.fault(moment, f"{course.cut_at(moment, port).where} didn't lose all packets: {way}")
-        holds = [one for one in course.holds if one.moment < moment < one.end and number]
-        if holds:
-            self.held[number] = max(holds, key=lambda one: one.end), self.delay(pipe)
+        if number and (hold := course.hold(moment)) and moment < hold.end:
+            self.held[number] = hold, self.delay(pipe)
         self.lossless(target, pipe, moment)
         self.from_stopped(moment, packet)
 
@@ -179,8 +182,7 @@ class Judge(OfHosts):
     def words_in_cuts(course: Course, moment: int, packet: list[str], word: int) -> set[int]:
         """Returns the random words that a packet may have: the drawn word, and the word of a loss in a cut of its port, unless all
         packets are cut."""
-        ports = [port for port in course.ports() if packet[2] == port[0] and port[1] in packet[3:5]]
-        states = [[course.is_cut(at, port) for at in (moment - 1, moment)] for port in ports]
+        states = [[course.is_cut(at, port) for at in (moment - 1, moment)] for port in course.ports_of(packet)]
         is_all = set[bool]().union(*(course.is_cut(at) for at in (moment - 1, moment)))
         may_be_lost = False in is_all and any(True in state for of_port in states for state in of_port)
         must_be_lost = True not in is_all and any(of_port == [{True}, {True}] for of_port in states)
@@ -259,11 +261,7 @@ class Judge(OfHosts):
             self.entered[rest] = self.now
         elif kind == "late-act":
             self.late_act = int(rest)
-        elif (
-            kind == "act"
-            and rest not in self.asked
-            and not any(f" {rest}`" in one.where and one.moment == self.now for one in self.meaning.events)
-        ):
+        elif kind == "act" and rest not in self.asked and (self.now, rest) not in self.lines_of_cuts:
             if self.tells_changes:
                 self.fault(self.now, f"`{rest}` at {seconds(self.now)} isn't the file's, nor was the control socket asked for it")
             else:

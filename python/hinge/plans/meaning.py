@@ -68,6 +68,7 @@ class Meaning:
     chosen: dict[int, Chosen] = field(default_factory=dict)  # packets, by pipes
     words: dict[int, list[str]] = field(default_factory=dict)  # of each pipe at the beginning
     said = "the file"
+    spelt = 0  # so many events, in dummynet's spelling
     undrawn: set[int] = field(default_factory=set)  # the pipes whose packets rules or files choose
     own_loss: set[int] = field(default_factory=set)  # the places of lines of queues that say one
     traced: set[int] = field(default_factory=set)  # the pipes whose bandwidth is a file's, 0 of it an outage
@@ -268,7 +269,8 @@ class Meaning:
 
     def spell(self) -> None:
         """Spells all lines like dummynet does, with the loss of each link whose losses a model decides."""
-        lines = [number for number, event in enumerate(self.events) if event.kind == "line" and event.target == ("", 0)]
+        lines = [number for number in range(self.spelt, len(self.events)) if self.events[number].kind == "line"]
+        self.spelt = len(self.events)
         for number, text in zip(lines, spelled([self.events[number].line for number in lines])):
             target, options = options_of(text)
             self.own_loss |= {number} if " plr " in self.events[number].line else set()

@@ -3,15 +3,18 @@ and a stopped or killed host sent no packet."""
 
 from __future__ import annotations
 
-from bisect import bisect_left
-from collections import defaultdict
-from typing import Iterator, NamedTuple, Tuple
+from bisect import bisect_left, bisect_right, insort
+from collections import defaultdict, deque
+from heapq import heappop, heappush
+from typing import Iterator, NamedTuple, Optional, Tuple
 
 from hinge.plans.meaning import ENDS, NEVER, SECOND, Event, Meaning
 
 MS = 10**6
-Key = Tuple[str, str]  # a host and the word that ends a fault
+Key = Tuple[str, str]  # a host and the word of an act
 Place = Tuple[int, int]  # a moment and the order of the lines
+Act = Tuple[int, int, str, str]  # when it was done, and should be, its host and its words
+NO_ACT: Act = (0, 0, "", "")
 UDP = "17"  # the protocol of what no kernel sends by itself
 
 
@@ -32,35 +35,54 @@ class OfHosts:
         self.meaning, self.limit, self.now = meaning, limit, 0
         self.faults: list[Broken] = []
         self.remarks: list[str] = []
-        self.stops: dict[str, list[Event]] = {}  # and kills, and what ends them, by hosts
+        self.stops = defaultdict[Key, list[Event]](list)  # and kills, in order, up to the first packet that shows whether they hold
+        self.ends_of = defaultdict[Key, list[int]](list)  # the moments of what ends them, by its word
         self.acts: list[tuple[int, str, str]] = []  # as they were told
+        self.places = defaultdict[Key, deque[int]](deque)  # of acts in that list
+        self.latest = defaultdict[Key, list[int]](list)  # the moments of acts, without those before an earlier one
+        self.last: dict[str, str] = {}  # of `stop` and `cont`, by hosts
         self.late_act = 0  # ns, of the act that the next remark tells
         self.tells_changes = self.tells_entries = False  # as transcripts since 2.1 do, and those with a later format
         self.entered: dict[str, int] = {}  # when `hinge exec` began something on a host last
         self.own: dict[str, str] = {}  # hosts by their addresses
         self.ends = False
         self.gone_on: set[str] = set()  # hosts that were stopped, behind the end
+        self.fronts: set[str] = set()  # of the faults
 
     def fault(self, moment: int, text: str) -> None:
-        if text.partition(":")[0] not in (one.text.partition(":")[0] for one in self.faults):
+        if (front := text.partition(":")[0]) not in self.fronts:
+            self.fronts.add(front)
             self.faults.append(Broken(moment, text))
 
     def note_acts(self, events: list[Event]) -> None:
-        for one in (one for one in events if one.kind in (*ENDS, *ENDS.values())):
-            self.stops.setdefault(one.host, []).append(one)
+        for one in events:
+            if one.kind in ENDS:
+                heappush(self.stops[one.host, one.kind], one)
+            elif one.kind in ENDS.values():
+                insort(self.ends_of[one.host, one.kind], one.moment)
 
     def from_stopped(self, moment: int, packet: list[str]) -> None:
         """Reports datagrams from a stopped or killed host, whose kernel answers but never sends one by itself. `hinge exec` may run
-        programs on a killed host."""
-        host = self.own.get(packet[0]) if packet[2] == UDP and not self.ends else None
-        for fault in self.stops.get(host or "", ()):
-            if fault.kind not in ENDS or not fault.moment + self.limit < moment < fault.end - MS:
-                continue
-            begun = [at for at, *act in self.acts if act == [fault.kind, host] and at >= fault.moment - MS]
-            goes_on = any(one.kind == ENDS[fault.kind] and fault.moment < one.moment <= moment for one in self.stops[fault.host])
-            may_run = fault.kind != "stop" and (not self.tells_entries or self.entered.get(fault.host, -1) >= fault.moment)
-            if begun and begun[0] + self.limit < moment and not goes_on and not may_run:
-                self.fault(moment, f"{fault.where} doesn't hold: at {seconds(moment)} {host} sends to {packet[1]}")
+        programs on a killed host. What excuses a packet excuses later ones, so that one packet decides about each fault."""
+        host = self.own.get(packet[0], "") if packet[2] == UDP and not self.ends else ""
+        for kind in ENDS if self.tells_entries else ("stop",):
+            faults = self.stops[host, kind]
+            while faults and self.has_begun(faults[0], moment):
+                fault = heappop(faults)
+                may_run = kind != "stop" and self.entered.get(host, -1) >= fault.moment
+                if moment < fault.end - MS and not self.goes_on(fault, moment) and not may_run:
+                    self.fault(moment, f"{fault.where} doesn't hold: at {seconds(moment)} {host} sends to {packet[1]}")
+
+    def has_begun(self, fault: Event, moment: int) -> bool:
+        """Returns whether a fault's act was done before a moment, by more than the limit."""
+        latest = self.latest[fault.host, fault.kind]
+        first = bisect_left(latest, fault.moment - MS)
+        return first < len(latest) and max(latest[first], fault.moment) + self.limit < moment
+
+    def goes_on(self, fault: Event, moment: int) -> bool:
+        """Returns whether a line has ended a fault."""
+        ends = self.ends_of[fault.host, ENDS[fault.kind]]
+        return bisect_right(ends, fault.moment) < bisect_right(ends, moment)
 
     def expected(self) -> Iterator[tuple[int, str, str, Event]]:
         """Yields the acts that a transcript must contain, with their moments. A fault's end counts only when no other fault of the
@@ -87,37 +109,50 @@ class OfHosts:
 
     def note_act(self, moment: int, word: str, host: str) -> None:
         """Notes an act as it was told. After the end, stopped processes continue, which no line requests."""
-        latest = [before for _, before, one in self.acts if one == host and before in ("stop", "cont")][-1:]
-        if self.ends and word == "cont" and latest == ["stop"] and host not in self.gone_on:
+        if self.ends and word == "cont" and self.last.get(host) == "stop" and host not in self.gone_on:
             self.gone_on.add(host)
-        else:
-            self.acts.append((moment, word, host))
+            return
+        if word in ("stop", "cont"):
+            self.last[host] = word
+        if not self.latest[host, word] or self.latest[host, word][-1] < moment:
+            self.latest[host, word].append(moment)
+        self.places[host, word].append(len(self.acts))
+        self.acts.append((moment, word, host))
+
+    def requested(self) -> Iterator[tuple[int, str, str, Event, Optional[int]]]:
+        """Yields the acts that lines request, in order, each with the place of the first act that can be it."""
+        for moment, word, host, event in sorted(self.expected(), key=lambda one: (one[0], one[3].place)):
+            places = self.places[host, word]
+            while places and self.acts[places[0]][0] < moment - MS:
+                places.popleft()  # too early for later lines too
+            yield moment, word, host, event, places.popleft() if places else None
 
     def judge_acts(self) -> None:
         """Looks at each act that a line requests. An act of the same moment on another host may come before a restart, which takes longer."""
-        rest, before = list(self.acts), list[tuple[int, int, str, str]]()
-        begun: dict[int, int] = {}
-        for moment, word, host, event in sorted(self.expected(), key=lambda one: (one[0], one[3].place)):
-            told = next((one for one in rest if one[1:] == (word, host) and one[0] >= moment - MS), None)
-            if told is None:
+        begun, done, at = dict[int, int](), set[int](), 0
+        before, latest = dict[str, Act](), NO_ACT  # of this moment, restarts by their hosts, and of all earlier ones
+        for moment, word, host, event, place in self.requested():
+            if place is None:
                 if moment + self.limit < self.now:
                     self.fault(moment, f"{event.where}: `{word} {host}` at {seconds(moment)} wasn't done")
                 continue
-            rest.remove(told)
-            late = told[0] - moment - event.doubt
-            ordered = (one for one in before if one[1] < moment or one[2] == host or not one[3].startswith("`restart "))
-            latest = max(ordered, default=(0, 0, "", ""))
-            if late > self.limit:
-                self.fault(told[0], f"{event.where}: `{word} {host}` came {late / MS:.3f} ms late")
-            elif told[0] < latest[0]:
-                self.fault(told[0], f"{event.where}: `{word} {host}` came before {latest[3]}")
-            elif event.place in begun and (short := event.end - event.moment - (told[0] - begun[event.place])) > self.limit:
-                self.fault(told[0], f"{event.where} lasted {short / MS:.3f} ms less than it should")
-            begun.setdefault(event.place, told[0])
-            before.append((told[0], moment, host, f"`{word} {host}` of {event.where}"))
-        for at, word, host in rest:
-            text = f"`{word} {host}` at {seconds(at)} isn't the file's"
+            if at != moment:
+                at, before, latest = moment, {}, max(latest, *before.values(), NO_ACT)
+            told = self.acts[place][0]
+            last = max(latest, before.get("", NO_ACT), before.get(host, NO_ACT))
+            if told - moment - event.doubt > self.limit:
+                self.fault(told, f"{event.where}: `{word} {host}` came {(told - moment - event.doubt) / MS:.3f} ms late")
+            elif told < last[0]:
+                self.fault(told, f"{event.where}: `{word} {host}` came before {last[3]}")
+            elif event.place in begun and (short := event.end - event.moment - (told - begun[event.place])) > self.limit:
+                self.fault(told, f"{event.where} lasted {short / MS:.3f} ms less than it should")
+            begun.setdefault(event.place, told)
+            done.add(place)
+            of = host if word == "restart" else ""
+            before[of] = max(before.get(of, NO_ACT), (told, moment, host, f"`{word} {host}` of {event.where}"))
+        for moment, word, host in (act for place, act in enumerate(self.acts) if place not in done):
+            text = f"`{word} {host}` at {seconds(moment)} isn't the file's"
             if self.tells_changes:
-                self.fault(at, text)
+                self.fault(moment, text)
             else:
                 self.remarks.append(text)

@@ -11,9 +11,9 @@ import gc
 import os
 import re
 import shlex
+from collections import Counter
 from contextlib import contextmanager
 from io import StringIO
-from itertools import chain
 from typing import TYPE_CHECKING, Iterable, Iterator, Optional, Sequence
 
 from hinge.arguments import is_number
@@ -62,6 +62,10 @@ def uncollected() -> Iterator[None]:
             gc.enable()
 
 
+def pipes_of_queue(line: str) -> list[str]:
+    return re.findall(r"\bpipe (\d+)\b", line) if re.match("(ipfw )?queue ", line) else []
+
+
 class Plan:
     def __init__(self, longest: int = MAHIMAHI_BYTES, links: int = 1) -> None:
         """Creates a plan for `links` links, with packets of at most `longest` bytes."""
@@ -82,6 +86,7 @@ class Plan:
         self.losses: dict[int, str] = {}  # of words of ways, at any moment
         self.silent: set[Target] = set()  # queues of which a line says nothing of a loss
         self.masks: set[int] = set()  # pipes of which a line has a mask
+        self.queues: Counter[str] = Counter()  # how many lines of queues name each pipe
         self.mapped: dict[int, set[Target]] = {}  # where rules send packets of each way
         self.rules: list[str] = []  # the words of each line of a rule
         self.ruled: set[str] = set()  # the lines themselves
@@ -119,6 +124,7 @@ class Plan:
         """Notes a queue's line without `plr`, or a pipe's with a mask. Wrong: a way whose words lose packets sends some to the queue, or
         an outage holds the pipe."""
         target = target_of(line)
+        self.queues.update(pipes_of_queue(line))
         if target.kind == "queue" and configures(line) and "plr" not in line.split():
             for way, targets in self.mapped.items():
                 self.refuse_unlost(self.losses.get(way, "0"), targets & {target})
@@ -257,6 +263,7 @@ class Plan:
         line = of_link(bare(line), link)
         if line:
             self.configured.append(line)
+            self.queues.subtract(pipes_of_queue(self.current.get(target_of(line), "")))
             self.current[target_of(line)] = line
             self.take(line)
 
@@ -385,8 +392,7 @@ class Plan:
 
     def is_shared(self, pipe: int) -> bool:
         """Returns whether a pipe has queues or a mask, so that its packets may start in another order than they arrived."""
-        lines = chain(self.current.values(), (one.line for one in self.changes.lines))
-        return pipe in self.masks or any(re.match(rf"(ipfw )?queue .*\bpipe {pipe}\b", line) for line in lines)
+        return pipe in self.masks or self.queues[str(pipe)] > 0
 
     @uncollected()
     def trace(self, way: int, path: str, bin_ns: Optional[int], lasting: int) -> None:

@@ -16,6 +16,7 @@ from unittest import mock
 from kit import TOP, folder
 
 from hinge import command
+from hinge.border.files import Exceeded
 
 CLEARED = "\r\x1b[K"
 ENVIRONMENT = {**os.environ, "PYTHONPATH": os.pathsep.join(sys.path)}
@@ -86,33 +87,29 @@ class Ends(unittest.TestCase):
                 command.run(main)
         return left.exception.code, said.getvalue()
 
-    def raised(self, error: BaseException) -> tuple[object, str]:
-        def main() -> None:
-            raise error
-
-        return self.ended(main)
-
-    def test_well(self) -> None:
-        self.assertEqual(self.ended(lambda: None), (0, ""))
-
-    def test_a_fault_is_one_line_and_its_status(self) -> None:
-        self.assertEqual(self.raised(command.Fault("row 1: \x1b[31mbad", 4)), (4, "hinge some: row 1: \\x1b[31mbad\n"))
-
-    def test_an_error_of_the_system_names_its_file(self) -> None:
-        self.assertEqual(
-            self.raised(FileNotFoundError(errno.ENOENT, "No such file or directory", "here")),
-            (6, "hinge some: here: No such file or directory\n"),
-        )
-        self.assertEqual(
-            self.raised(OSError(errno.ENOSPC, "No space left on device")),
-            (6, "hinge some: standard output: No space left on device\n"),
-        )
-        self.assertEqual(
-            self.raised(OSError(errno.EMFILE, "Too many open files")), (6, "hinge some: the system: Too many open files\n")
-        )
-
-    def test_an_interrupt_is_no_fault(self) -> None:
-        self.assertEqual(self.raised(KeyboardInterrupt()), (130, ""))
+    def test_nothing_gets_past_the_top(self) -> None:
+        for error, status, told in (
+            (None, 0, ""),
+            (command.Fault("row 1: \x1b[31mbad", 4), 4, "row 1: \\x1b[31mbad"),
+            (FileNotFoundError(errno.ENOENT, "No such file or directory", "here"), 6, "here: No such file or directory"),
+            (OSError(errno.ENOSPC, "No space left on device"), 6, "standard output: No space left on device"),
+            (OSError(errno.EMFILE, "Too many open files"), 6, "the system: Too many open files"),
+            (MemoryError(), 6, "the system: there is no memory for this"),
+            (SystemError("error return without exception set"), 6, "the system: error return without exception set"),
+            (
+                ImportError("x.so: failed to map segment from shared object"),
+                6,
+                "the system: x.so: failed to map segment from shared object",
+            ),
+            (RuntimeError("can't start new thread"), 6, "the system: can't start new thread"),
+            (Exceeded(5, "bytes"), 4, "it has more than 5 bytes"),
+            (KeyError("x"), 70, "a defect of hinge (KeyError: 'x'); with HINGE_TRACEBACK=1 it shows where"),
+            (RecursionError(), 70, "a defect of hinge (RecursionError: ); with HINGE_TRACEBACK=1 it shows where"),
+            (SystemExit(3), 3, ""),
+            (SystemExit(), 0, ""),
+            (KeyboardInterrupt(), 130, ""),
+        ):
+            self.assertEqual(self.ended(mock.Mock(side_effect=error)), (status, f"hinge some: {told}\n" * bool(told)))
 
     def test_an_interrupt_while_python_loads_the_kit_ends_it_without_a_word(self) -> None:
         module, kit = folder() / "early" / "sitecustomize.py", TOP / "python" / "hinge" / "__main__.py"

@@ -7,18 +7,13 @@ import subprocess
 import sys
 from pathlib import Path
 from typing import NamedTuple, Sequence
-from unittest import mock
 
-from simulated_hosts import TOP
+from linked import needs_rooms
 from with_folder import WithFolder
 
-from hinge.border.files import LONGEST_LINE, MOST_LINES, MOST_OBJECT, MOST_SAID, MOST_TABLE, MOST_TEXT, Unpacked
-from hinge.checks.lines import MOST_LINE_BYTES
-from hinge.command import Fault
-from hinge.net.nemesis import MOST_DRAWS
+from hinge.border.files import MOST_SAID
 from hinge.paths.folder import NET
 from hinge.program import HINGE
-from hinge.replays import parting
 
 SIZE = 3_000_000  # bytes
 TIMES, MORE = 9, 4 << 20  # bytes of memory for each byte of a file, and for what a system gives more
@@ -75,11 +70,12 @@ OF_READER = {  # texts whose lines differ and say something, by a word of the co
     "addresses without packets": "look",
 }
 OF_TWO = "host a\nhost b\nlink a b 1Mbit/s\n"
-DRY, CONFIGURED = ["net", "x", "--dry-run"], ["run", "--config", "x", "--", "true"]
+DRY = ["net", "x", "--dry-run"]
+CHANGED = ["run", "--quiet", "--link", "1ms", "--timeline", "x", "--", "true"]
 SAYING = {  # a command, and what its text begins with and says again and again
     "hosts of a net": (DRY, "", "host h{}\n"),
     "links of a net": (DRY, OF_TWO, "link a b\n"),
-    "changes": (["run", "--link", "1ms", "--timeline", "x", "--", "true"], "", "{}ms outage {}ns lossy\n"),
+    "changes": (CHANGED, "", "{}ms outage {}ns lossy\n"),
     "lines of ipfw": (["ipfw", "x"], "", "ipfw pipe {} config\n"),
 }
 EVENTS = 12_000
@@ -100,23 +96,29 @@ TAKEN = {  # nets that are taken: what one begins with, and what it says EVENTS 
     "words of many links": (OF_TWO, "link a b 1Mbit/s\n", "at {0}ms a b 9 1Mbit/s\n"),
     "sizes of many links": (OF_TWO, "link a b 1Mbit/s\n", "mtu a b {0} 1400\n"),
     "masks and outages": (OF_TWO + "link a b 1Mbit/s\n", "at {0}ms a b outage 1ns\nat {0}ms a b 2 pipe 1 config mask proto 255\n"),
+    "traces": ("router r\n", "host h{0}\nlink r h{0} 1ms\n", "trace r h{0} t\n"),
     "rules": (OF_TWO + "line a b queue 1 config pipe 1\n", "map a b src-port {0} => queue 1\n"),
 }
-NEMESIS = "nemesis isolate-one every 1s for 1s until 9999s\n"
-BEYOND = {  # one step over a limit of SECURITY.md: the command, its text, and what is more than it may be
-    "lines of a text": (DRY, b"\n" * (MOST_LINES + 1), f"{MOST_LINES:,} lines"),
-    "lines that say something": (CONFIGURED, b"x\n" * (MOST_SAID + 1), f"{MOST_SAID:,} lines that say something"),
-    "a line of rows": (["why", "1", "c", "x", "x"], HEADER + b"x" * LONGEST_LINE + b"x\n", f"{LONGEST_LINE:,} letters in a line"),
-    "a line of a configuration": (["check", "x"], b"pipe 1 config " + b"delay 1 " * 9000, f"{MOST_LINE_BYTES:,} bytes in a line"),
-    "JSON": (["look", "net"], b" " * (MOST_OBJECT + 1), f"{MOST_OBJECT:,} bytes"),
-    "events": (DRY, (OF_TWO + NEMESIS * 14).encode(), f"{MOST_SAID:,} events of links and hosts"),
-    "draws": (
-        DRY,
-        ("router r\n" + "".join(f"host h{n}\nlink r h{n} 1ms\n" for n in range(999)) + NEMESIS).encode(),
-        f"{MOST_DRAWS:,} random",
+TIMELINES = {  # and timelines
+    "words of a timeline": ("", "{0}ns 1ms {0}bit/s\n"),
+    "lines of a timeline": ("", "{0}ns pipe 1 config bw {0}bit/s\n"),
+    "outages of a timeline": ("", "{0}us outage 1ns\n"),
+    "ports of a timeline": ("", "{0}us outage {0}ns lossy tcp port {0}\n"),
+}
+FIRST = "".join(f"c,0,configure,pipe {pipe} config delay 5\nr,configured\n" for pipe in (1, 2))
+TO_MOMENT = "c,0,advance,{0}\nr,advanced,{0}\n"
+PACKET = "c,0,submit,pipe,1,10.8.0.1,10.8.0.2,17,1,2,36,7,{0}\nr,queued,{0},0,0\n"
+ACTS = {  # lines of a net at the moments {0} and {1}, and what its transcript says of them
+    "stops that nothing ends": ("at {0}ns stop a\n", "#,act,stop a\n", "", 1),
+    "stops that aren't done": ("at {0}ns stop a\n", "", "", 1),
+    "kills and restarts": ("at {0}ns kill a 60ms\n", "#,act,kill a\n", "#,act,restart a\n", 0),
+    "cuts and heals": (
+        "at {0}ns cut a\nat {1}ns heal a\n",
+        "#,act,cut a\n" + FIRST.replace("delay 5", "delay 5 plr 1"),
+        f"#,act,heal a\n{FIRST}",
+        0,
     ),
 }
-LIMITS = (MOST_TEXT, MOST_LINES, MOST_SAID, MOST_TABLE, LONGEST_LINE, MOST_LINE_BYTES, MOST_OBJECT, MOST_DRAWS, Unpacked.FREE)
 OF_A_LINE = 2048  # bytes of memory for each that says something, of MOST_SAID
 PLACES = ("p.addresses", "net/net.json", f"net/{NET}")  # at which the text stands too
 READERS = {  # by what each module of the kit that reads a text is reached; tools/gate/border.py asks for a row of each
@@ -161,13 +163,14 @@ def ended(words: Sequence[object], folder: Path) -> Ended:
     return Ended(int(status), text, int(memory), float(seconds))
 
 
-class OfFiles(WithFolder):
+class Hostile(WithFolder):
     def setUp(self) -> None:
         super().setUp()
         (self.folder / "net").mkdir()
         self.file, self.net, self.config = self.folder / "x", self.folder / "net" / "net.history", self.folder / "c"
         self.config.write_text("pipe 1 config\n")
         self.net.write_bytes(HISTORY)
+        (self.folder / "t").write_text("1\n")
         self.start = ended(["look", self.net.parent], self.folder).memory
 
     def check(self, words: Sequence[object], data: bytes, statuses: set[int]) -> None:
@@ -178,6 +181,17 @@ class OfFiles(WithFolder):
         self.assertLess(done.memory, self.start + MORE + TIMES * len(data))
         self.assertLess(done.seconds, LONGEST)
 
+    def of_text(self, words: Sequence[str], data: bytes) -> Ended:
+        """How a command ends where it reads this text."""
+        self.file.write_bytes(data)
+        for place in PLACES:
+            (self.folder / place).unlink(missing_ok=True)
+            os.link(self.file, self.folder / place)
+        is_here = {one.name for one in self.folder.iterdir()}
+        return ended([words[0], *(self.folder / word if word in is_here else word for word in words[1:])], self.folder)
+
+
+class OfFiles(Hostile):
     def test_histories(self) -> None:
         for name, data in HISTORIES.items():
             self.file.write_bytes(HISTORY + data)
@@ -218,33 +232,29 @@ class OfFiles(WithFolder):
                 self.assertLessEqual(done.told.count("\n"), 2, done.told[-500:])
                 self.assertLess(done.memory, self.start + MORE + TIMES * len(data) + OF_A_LINE * MOST_SAID)
 
-    def test_nets_that_are_taken(self) -> None:
-        for name, (front, *lines) in TAKEN.items():
+    @needs_rooms
+    def test_nets_and_timelines_that_are_taken(self) -> None:
+        for name, (front, *lines) in {**TAKEN, **TIMELINES}.items():
             text = front + "".join(line.format(n) for line in lines for n in range(1, EVENTS + 1))
             with self.subTest(name):
-                done = self.of_text(DRY, text.encode())
+                done = self.of_text(DRY if name in TAKEN else CHANGED, text.encode())
                 self.assertEqual(done.status, 0, done.told[-500:])
                 self.assertLess(done.memory, self.start + MORE + TIMES * len(text) + OF_AN_EVENT * text.count("\n"))
                 self.assertLess(done.seconds, LONGEST)
 
-    def test_beyond_each_limit(self) -> None:
-        for name, (words, data, what) in BEYOND.items():
-            with self.subTest(name):
-                self.assertIn(f"more than {what}", self.of_text(words, data).told)
-        self.assertEqual(self.of_text(["check", "x"], b"pipe 1 config #" + b"x" * 70_000).status, 0)  # a comment may be longer
-        self.file.write_bytes(HISTORY + b"#\n" * 100)
-        with mock.patch.object(parting, "MOST_TABLE", 100), self.assertRaisesRegex(Fault, "more than 100 bytes"):
-            list(parting.entries(self.file))
-
-    def test_the_limits_are_those_of_the_page(self) -> None:
-        page = (TOP / "SECURITY.md").read_text(encoding="utf-8")
-        self.assertEqual([], [f"{limit:,}" for limit in LIMITS if f"{limit:,} " not in page])
-
-    def of_text(self, words: Sequence[str], data: bytes) -> Ended:
-        """How a command ends where it reads this text."""
-        self.file.write_bytes(data)
-        for place in PLACES:
-            (self.folder / place).unlink(missing_ok=True)
-            os.link(self.file, self.folder / place)
-        is_here = {one.name for one in self.folder.iterdir()}
-        return ended([words[0], *(self.folder / word if word in is_here else word for word in words[1:])], self.folder)
+    def test_acts_of_transcripts(self) -> None:
+        """Of each a thousand, with a packet behind it."""
+        for name, (line, *told, status) in ACTS.items():
+            with self.subTest(name), open(self.folder / "net" / NET, "w") as net, open(self.net, "w") as history:
+                net.write("host a x\nhost b x\nlink a b 5ms\n")
+                history.write("dummynet-live,1\n#,format,3\n#,host,a,10.8.0.1\n#,host,b,10.8.0.2\n" + FIRST)
+                for begin in range(10**9, (1 + EVENTS // 12) * 10**9, 10**9):
+                    moments = begin, begin + 60_000_000, begin + 90_000_000
+                    net.write(line.format(*moments))
+                    history.write(
+                        "".join(TO_MOMENT.format(at) + text for at, text in zip(moments, (*told, PACKET.format(moments[2]))))
+                    )
+                net.flush(), history.flush()
+                done = ended(["check", self.net.parent], self.folder)
+                self.assertEqual((done.status, done.told.count("Traceback")), (status, 0), done.told[-500:])
+                self.assertLess(done.seconds, LONGEST)

@@ -230,21 +230,6 @@ class OfScratch(unittest.TestCase):
 
 
 class OfBudgets(unittest.TestCase):
-    def test_a_text_that_never_ends_is_refused(self) -> None:
-        for words in (
-            ["run", "--timeline", "/dev/zero", "--", "true"],
-            ["net", "/dev/zero", "--dry-run"],
-        ):
-            self.assertRegex(run(*words).stderr, "has more than (268,435,456 bytes|65,536 letters in a line)", words)
-        for *words, what in (
-            ("check", "/dev/zero", "268,435,456 bytes"),
-            ("look", "/dev/zero", "[0-9,]+ (bytes|letters)( in a line)?"),
-            ("look", "--diff", "/dev/zero", "/dev/zero", "[0-9,]+ (bytes|letters)( in a line)?"),
-        ):
-            done = run(*words)
-            self.assertRegex(done.stderr, rf"/dev/zero: it has more than {what}\n\Z")
-            self.assertEqual((done.returncode, done.stdout), (4, ""), words)
-
     def test_where_an_exception_came_from(self) -> None:
         text = "try:\n  with untrusted('f'):\n    [][0]\nexcept Fault as fault:\n  print(fault)"
         for variables in ({}, {"HINGE_TRACEBACK": "1"}):

@@ -3,7 +3,6 @@
 from __future__ import annotations
 
 import subprocess
-import sys
 import unittest
 
 from kit import MIXED, folder, write
@@ -21,12 +20,6 @@ COMMANDS = (
     ["packets", MIXED, "-o", "streams.csv"],
     ["run", "--quiet", "--server", "true", "--", "true"],
 )
-TOP = """
-import sys
-from hinge import command
-def main(): raise {}
-command.run(main)
-"""
 
 
 class OfStreams(unittest.TestCase):
@@ -48,16 +41,3 @@ class OfStreams(unittest.TestCase):
                     self.assertNotEqual(status, 120)
             closed, _ = self.status(words, ">&- 2>&-")
             self.assertEqual(closed, usual, words)
-
-    def test_nothing_gets_past_the_top(self) -> None:
-        for fault, status, told in (
-            ("MemoryError", 6, "hinge: the system: there is no memory for this\n"),
-            ("KeyError('x')", 70, "hinge: a defect of hinge (KeyError: 'x'); with HINGE_TRACEBACK=1 it shows where\n"),
-            ("RecursionError", 70, "hinge: a defect of hinge (RecursionError: ); with HINGE_TRACEBACK=1 it shows where\n"),
-            ("OSError(24, 'Too many open files')", 6, "hinge: the system: Too many open files\n"),
-            ("SystemExit(3)", 3, ""),
-            ("SystemExit", 0, ""),
-            ("KeyboardInterrupt", 130, ""),
-        ):
-            done = subprocess.run([sys.executable, "-c", TOP.format(fault)], capture_output=True, text=True)
-            self.assertEqual((done.returncode, done.stderr), (status, told), fault)
