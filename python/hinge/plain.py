@@ -8,7 +8,7 @@ from bisect import bisect_left, bisect_right
 from itertools import accumulate, chain, compress, repeat
 from typing import Any, Callable, Iterable, Iterator, Optional, Sequence
 
-int64, uint8 = int, int
+int64 = int
 CODES = {"i1": "b", "i4": "i", "u4": "I", "i8": "q"}  # of numpy's names of numbers
 
 
@@ -67,9 +67,6 @@ class Array:
     def copy(self) -> Array:
         return Array(self.items)
 
-    def tobytes(self) -> bytes:
-        return bytes(self.items)
-
 
 def is_mask(row: Array) -> bool:
     return len(row) > 0 and isinstance(row.items[0], bool)
@@ -110,9 +107,6 @@ def zeros(count: int, dtype: object = None) -> Array:
     return full(count, False if dtype is bool else 0)
 
 
-empty = zeros
-
-
 def arange(*bounds: int) -> Array:
     return Array(range(*bounds))
 
@@ -127,10 +121,6 @@ def concatenate(rows: Iterable[Array]) -> Array:
 
 def where(choice: Array, one: Any, other: Any) -> Array:
     return Array(this if is_so else that for is_so, this, that in zip(choice, each(one), each(other)))
-
-
-def minimum(one: Array, other: Any) -> Array:
-    return Array(map(min, one, each(other)))
 
 
 def maximum(one: Array, other: Any) -> Array:

@@ -3,7 +3,6 @@
 from __future__ import annotations
 
 import csv
-from itertools import chain
 from dataclasses import dataclass
 from typing import IO, Iterator, Optional, Union
 
@@ -18,6 +17,7 @@ PERCENTILES = (50, 95, 99)
 RECENT = 1 << 9  # packets
 WHOLE = slice(None)
 Value = dict[str, Union[int, float, None]]
+Rows = Union[Integers, slice]
 
 
 @dataclass(frozen=True)
@@ -82,7 +82,7 @@ def jitter_after(sixteenfold: int, delays: list[int]) -> int:
     return sixteenfold >> 4
 
 
-def of_rows(replay: Replay, rows: Integers, flows: list[slice]) -> Iterator[Value]:
+def of_rows(replay: Replay, rows: Rows, flows: list[slice]) -> Iterator[Value]:
     """Yields each flow's figures for all rows."""
     event, length, at = (column[rows] for column in (replay.event, replay.packets.length, replay.at))
     for flow in flows:
@@ -91,14 +91,13 @@ def of_rows(replay: Replay, rows: Integers, flows: list[slice]) -> Iterator[Valu
         yield value | {EVENT_NAMES[kind]: int(np.count_nonzero(event[flow] == kind)) for kind in (OUT, LOST, FULL, NONE, HELD)}
 
 
-def of_delays(replay: Replay, parts: Optional[Parts], out: Integers, flows: list[slice]) -> Iterator[Value]:
+def of_delays(replay: Replay, parts: Optional[Parts], out: Rows, flows: list[slice]) -> Iterator[Value]:
     """Yields each flow's figures for packets that left, and finally those for all flows, without jitter. The delays' parts need
     the configuration."""
-    came, due, packet = (column[out] for column in (replay.at, replay.due, replay.packet))
-    columns = (column[out] for column in (replay.packets.length, replay.start, *([parts.transmission] if parts else [])))
-    sums = [*zip(*([exact_sum(column[flow]) for flow in flows] for column in chain((came, due), columns)))]
-    all_sums = tuple(map(sum, zip(*sums))) or (0,) * (4 + bool(parts))
-    took = due - came
+    columns = (replay.at, replay.due, replay.packets.length, replay.start, *([parts.transmission] if parts else []))
+    sums = [*zip(*([exact_sum(column[flow]) for flow in flows] for column in (column[out] for column in columns)))]
+    all_sums = tuple(map(sum, zip(*sums))) or (0,) * len(columns)
+    due, packet, took = replay.due[out], replay.packet[out], replay.took[out]
     for flow, (at, end, size, start, *sending) in zip((*flows, WHOLE), (*sums, all_sums)):
         own, count = took[flow], len(took[flow])
         value: Value = {"carried_mbit_s": rate(size, due[flow]), "min_ns": int(own.min()) if count else None}
@@ -116,9 +115,13 @@ def table_of(replay: Replay, parts: Optional[Parts], by: str = "tuple", top: int
     """Returns the figures for the largest flows, for the other flows together, and for all rows."""
     flows = group(replay, by).largest(replay.packets.length, top)
     count, is_out = len(flows.names), replay.is_out
-    rows = order_of(flows.of, count)
-    of_all = of_rows(replay, rows, [*spans(flows.of, count), WHOLE])
-    of_those_out = of_delays(replay, parts, rows[is_out[rows]], spans(flows.of[is_out], count))
+    rows: Rows = WHOLE if (flows.of[1:] >= flows.of[:-1]).all() else order_of(flows.of, count)  # a copy only of rows without order
+    of_all = [*of_rows(replay, rows, [*spans(flows.of, count), WHOLE])]
+    if is_out.all():
+        of_those_out = of_delays(replay, parts, rows, spans(flows.of, count))
+    else:
+        out = np.flatnonzero(is_out) if isinstance(rows, slice) else rows[is_out[rows]]
+        of_those_out = of_delays(replay, parts, out, spans(flows.of[is_out], count))
     return [Figures(name, {**one, **other}) for name, one, other in zip([*flows.names, "all"], of_all, of_those_out)]
 
 

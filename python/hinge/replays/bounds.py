@@ -6,7 +6,7 @@ from dataclasses import dataclass
 from typing import Iterator, Optional
 
 from hinge.checks.waits import Bound, bound_of, with_bound
-from hinge.lazy import Integers
+from hinge.lazy import Integers, Mask
 from hinge.replays.groups import places_of
 from hinge.replays.links import Configuration
 from hinge.replays.replay import HELD, OUT, Replay
@@ -41,14 +41,19 @@ def greatest(column: Integers) -> Optional[int]:
     return int(column.max()) if len(column) else None
 
 
+def chosen(column: Integers, choice: Mask) -> Integers:
+    """Returns the chosen places of a column, which is copied only if there are others."""
+    return column if choice.all() else column[choice]
+
+
 def bounds(replay: Replay, configuration: Configuration) -> Iterator[Bounded]:
     """Yields the bound of each pipe that has one and accepted a packet, if the configuration holds for every packet."""
     packets = replay.packets
     rows_of = dict(zip(packets.targets, places_of(packets.target, len(packets.targets))))
     for pipe in with_bound(configuration.last.pipes, configuration.last.queues):
         rows = rows_of.get(("pipe", pipe.number), slice(0))
-        event = replay.event[rows]
-        longest = int(packets.length[rows][(event == OUT) | (event == HELD)].max(initial=-1))
+        is_out = replay.event[rows] == OUT
+        longest = int(chosen(packets.length[rows], is_out | (replay.event[rows] == HELD)).max(initial=-1))
         if longest >= 0:
-            at, start, due = (column[rows][event == OUT] for column in (replay.at, replay.start, replay.due))
+            at, start, due = (chosen(column[rows], is_out) for column in (replay.at, replay.start, replay.due))
             yield Bounded(bound_of(pipe, longest), greatest(start - at), greatest(due - at))

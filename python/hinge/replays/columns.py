@@ -22,6 +22,7 @@ QUOTED, FAULT, SYSTEM, BAD_HEADER, BAD_ROW, TOO_LONG = 3, 4, (5, 6), 8, 9, 10  #
 EVENTS = NONE, FULL, LOST, HELD, OUT = range(5)
 EVENT_NAMES = ("none", "full", "lost", "held", "out")
 KINDS = ("pipe", "queue")
+LAST_OF_LINKS = 60_000  # the pipes behind it are those of second passes
 Item = TypeVar("Item")
 OfWord = Callable[[str], bool]  # whether a field is of its kind
 Widths = dict[str, str]  # the numbers of each column, as numpy calls them
@@ -267,26 +268,29 @@ Change = tuple[int, int, str]  # the record of a command that was obeyed, the cl
 
 @dataclass(frozen=True)
 class Told:
-    """The content of a history. `first` is the record of the first submit, or -1."""
+    """The content of a history, which is steady if all commands came before the first submit."""
 
     rows: Rows
     changes: list[Change]
     remarks: bytes
     records: int
-    first: int
+    is_steady: bool
     last_line: int
     is_whole: bool
 
 
 def read_told(path: str, kind: str, widths: Widths) -> Told:
-    """Returns a history's content or, with `net`, the content of a transcript with its remarks on packets."""
+    """Returns a history's content or, with `net`, the content of a transcript with its remarks on packets. A history's last columns,
+    the records of calls, are read only if commands come among packets, or packets pass a second pipe."""
 
     def take(answer: Answer) -> Told:
         count, targets, tuples, changes, remarks, records, first, last_line, is_whole = answer.numbers(9)
         kinds, five = answer.targets(targets), Tuples(answer.numbers(2 * tuples))
         lines = str(answer.bytes(changes), "utf-8", "replace").split("\n")[:-1]
         told = [(int(record), int(moment), text) for record, moment, text in (line.split(",", 2) for line in lines)]
-        text = bytes(answer.bytes(remarks))
-        return Told(Rows(answer.columns(count, widths), kinds, five), told, text, records, first, last_line, bool(is_whole))
+        text, is_steady = bytes(answer.bytes(remarks)), first < 0 or all(record < first for record, _, _ in told)
+        is_short = kind == "history" and is_steady and all(one == "queue" or number <= LAST_OF_LINKS for one, number in kinds)
+        columns = answer.columns(count, dict(islice(widths.items(), len(widths) - 2 * is_short)))
+        return Told(Rows(columns, kinds, five), told, text, records, is_steady, last_line, bool(is_whole))
 
     return read_columns(path, (kind,), {}, take)

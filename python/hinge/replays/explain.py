@@ -3,7 +3,7 @@
 from __future__ import annotations
 
 from dataclasses import dataclass
-from itertools import islice, takewhile
+from itertools import chain, islice, takewhile
 from typing import Callable, Optional
 
 from hinge.command import ROWS, Fault
@@ -131,7 +131,7 @@ class Explainer:
     def delivered(self, place: int) -> str:
         """Waiting, transmission and delay, and their sum."""
         parts = self.parts
-        sending, delay, behind = (int(column[place]) for column in (parts.transmission, parts.delay, parts.behind))
+        sending, (delay, behind) = int(parts.transmission[place]), map(int, chain(*parts.delay_and_behind(slice(place, place + 1))))
         at, start, due = (int(column[place]) for column in (self.replay.at, self.replay.start, self.replay.due))
         wait, took = start - at, due - at
         parts_of_it = f"{ms(took)} = {ms(wait)} waiting + {ms(sending)} transmission + {ms(delay)} delay"

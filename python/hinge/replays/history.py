@@ -10,8 +10,9 @@ from hinge.captures.addresses import addresses_file
 from hinge.checks.lines import judged_lines
 from hinge.command import ROWS, USAGE, Fault, say
 from hinge.outputs import refuse_inputs
+from hinge.lazy import few as np
 from hinge.replays.columns import HISTORY_COLUMNS, REPORT_COLUMNS, Change, read_told
-from hinge.replays.links import Configuration
+from hinge.replays.links import BEFORE_ALL, Configuration
 from hinge.replays.record_lines import is_history_file
 from hinge.replays.remarks import addresses_in, flips_in, lateness_in, seed_in, words_in
 from hinge.replays.replay import Replay, packets_of
@@ -38,13 +39,15 @@ def read_history(path: str) -> Source:
         columns = history.rows.columns
         packets = packets_of(path, history.rows, columns["at"], addresses_in(history.remarks))
         changes = spelled_by_program(path, history.changes)
-        is_steady = history.first < 0 or all(place < history.first for place, _, _ in changes)
+        if "submitted" not in columns:  # as in a report, all commands come before all calls
+            changes = [(BEFORE_ALL, moment, text) for _, moment, text in changes]
+            columns |= {"submitted": np.zeros(len(packets), np.int64), "handed": columns["packet"]}
         cut = None if history.is_whole else history.last_line
         own = {name: columns[name] for name in (*REPORT_COLUMNS, "submitted", "handed")}
         replay = Replay(path, packets, **own, flips=flips_in(history.remarks))
         known = seed_in(history.remarks), lateness_in(history.remarks)
         words = words_in(read_front(path, FRONT)) if os.path.isfile(path) else {}
-        return Source(replay, (path,), Configuration(path, changes), is_steady, True, cut, *known, words)
+        return Source(replay, (path,), Configuration(path, changes), history.is_steady, True, cut, *known, words)
 
 
 def read_sources(

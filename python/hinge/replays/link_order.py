@@ -8,12 +8,9 @@ from typing import NamedTuple
 
 from hinge.lazy import Integers, few as np
 from hinge.loss import KEPT
-from hinge.replays.columns import GREATEST
+from hinge.replays.columns import GREATEST, LAST_OF_LINKS
 from hinge.replays.links import BITS_NS, MOMENT, UNKNOWN, Parts, bandwidth_of, delay_of
 from hinge.replays.replay import HELD
-
-
-LAST_OF_LINKS = 60_000  # the pipes behind it are those of second passes
 
 
 @dataclass(frozen=True)
@@ -106,7 +103,7 @@ class LinkOrder:
     def times_of_held(self, place: int, free: int) -> Times:
         """Those of a packet that hadn't left, on a link of one flow that is free from a moment on."""
         parts, start = self.parts, max(free, int(self.parts.replay.at[place]))
-        spell = parts.carrier[[place]]
+        spell = parts.carrier[place : place + 1]
         if start > parts.replay.at[place]:
             spell = parts.configuration.places(("pipe", int(parts.pipe[place])), np.array([start]), MOMENT)
         bandwidth, delay = (int(parts.configuration.values(spell, value)[0]) for value in (bandwidth_of, delay_of))

@@ -153,14 +153,11 @@ class Parts:
                 found[rows] = -(length[rows] * -BITS_NS // bandwidth)
         return found
 
-    @cached_property
-    def delay(self) -> Integers:
-        return self.configuration.values(self.carrier, delay_of)
-
-    @cached_property
-    def behind(self) -> Integers:
-        """Returns the ns for which a row stayed behind its predecessor on a link whose delay became shorter."""
-        return np.where(self.replay.is_out, self.replay.due - self.replay.start - self.transmission - self.delay, 0)
+    def delay_and_behind(self, rows: slice) -> tuple[Integers, Integers]:
+        """Returns rows' delays, and the ns for which each stayed behind its predecessor on a link whose delay became shorter."""
+        replay, delay = self.replay, self.configuration.values(self.carrier[rows], delay_of)
+        left = replay.due[rows] - replay.start[rows] - self.transmission[rows] - delay
+        return delay, np.where(replay.is_out[rows], left, 0)
 
     @cached_property
     def is_shared(self) -> Mask:
@@ -175,7 +172,8 @@ class Parts:
 
     def check(self) -> Parts:
         """Checks the parts; returns this object. Fault: a row's parts don't add up to its delay, so the configuration is wrong."""
-        wrong = (self.behind < 0) | (self.behind > 0) & (len(self.configuration.by_target) == len(self.configuration.spells))
+        _, behind = self.delay_and_behind(slice(None))
+        wrong = (behind < 0) | (behind > 0) & (len(self.configuration.by_target) == len(self.configuration.spells))
         wrong |= (self.own == UNKNOWN) & (self.replay.event != NONE)
         if wrong.any():
             raise self.another(f"row {int(np.argmax(wrong)) + 1} would have fared otherwise")

@@ -10,8 +10,8 @@ from hinge.border.terminal import several
 from hinge.command import USAGE, Fault
 from hinge.lazy import Integers, few as np
 from hinge.replays.bounds import Bounded, bounds
-from hinge.replays.columns import REPORT_COLUMNS
-from hinge.replays.link_order import LAST_OF_LINKS, LinkOrder
+from hinge.replays.columns import LAST_OF_LINKS, REPORT_COLUMNS
+from hinge.replays.link_order import LinkOrder
 from hinge.replays.links import Configuration, Parts, read_configuration
 from hinge.replays.remarks import Lateness, late_remark
 from hinge.replays.replay import NONE, Replay, read_packets, read_report

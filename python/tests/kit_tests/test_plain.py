@@ -114,7 +114,6 @@ class Functions(unittest.TestCase):
                 "count_nonzero": (numbers,),
                 "lexsort": ((numbers, others),),
                 "maximum": (numbers, 4),
-                "minimum": (numbers, others),
                 "partition": (numbers, list(range(size))),
                 "unique": (numbers, True),
             }.items():
