@@ -12,7 +12,7 @@ NEAR, OUTPUT = 0.82, ("--out", "--output")  # of what was typed, and of what is 
 
 
 def add(line: argparse._ActionsContainer, words: str, text: str, **more: Any) -> None:
-    """Adds an option, with the name of its value behind it, as `--late TIME`."""
+    """Adds an option with a value; the text names both, as in `--late TIME`."""
     option, _, value = words.partition(" ")
     settings_of_value: dict[str, Any] = {"metavar": value} if value else {}
     line.add_argument(option, help=text, **settings_of_value, **more)
@@ -62,7 +62,7 @@ class Parser(argparse.ArgumentParser):
         return result
 
     def parse_intermixed_args(self, args: Any = None, namespace: Any = None) -> Any:
-        """Reads files and options in any order; behind `--` there are files alone, which may begin with a hyphen."""
+        """Returns options and files, which may come in any order. Behind `--` only files follow, and may begin with a hyphen."""
         words = sys.argv[1:] if args is None else args
         at = words.index("--") if "--" in words else len(words)
         files = [f"./{word}" if word.startswith("-") else word for word in words[at + 1 :]]

@@ -224,7 +224,7 @@ TOOLS = {tool: answer for tools, answer in OF_TOOLS.items() for tool in tools.sp
 
 @lru_cache
 def refusal(line: str) -> str:
-    """Returns why `hinge run` refuses an advised line; an empty text if it doesn't, or only for lack of a file."""
+    """Returns why `hinge run` refuses an advised line, or an empty text. A missing file is no reason."""
     from hinge.commands.run import options, options_and_command  # which a wrong word alone needs, as the next
     from hinge.run.plan_of_options import plan_of
     from hinge.run.settings import RunOptions
@@ -243,7 +243,7 @@ def refusal(line: str) -> str:
 
 
 def answer_of(words: Sequence[str]) -> Optional[Answer]:
-    """Returns the replacement for these words after `hinge`, if known, or why it would be refused."""
+    """Returns the replacement for these words after `hinge`, if known, or the reason for a refusal."""
     answer = replacement(words)
     wrong = refusal(answer.write) if answer else ""
     return Answer("", answer.page, (wrong,)) if answer and wrong else answer

@@ -198,7 +198,7 @@ def in_place(command: str, before: str, word: str) -> str:
 
 
 def line_for_word(command: str, own: Sequence[str]) -> str:
-    """Returns the line for a first word or an option that people try with a command; an empty text if unknown."""
+    """Returns the right line for a first word or option that people try, or an empty text."""
     for word, following in zip(own, [*own[1:], "-"]):
         name, _, value = word.partition("=")
         name = name if f"{command} {name}" in MEANT else "" if name.startswith("--") else name[:2]

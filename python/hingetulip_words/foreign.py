@@ -137,7 +137,7 @@ class Meant:
                     break
 
     def take_file(self, option: str, text: str) -> None:
-        """Reads a trace of a way, in whose place people write a bandwidth."""
+        """Reads a direction's trace, where people also write a bandwidth."""
         rate = None if text.isdigit() else number(text, "bits")
         if rate is not None:
             self.ways[option.removesuffix("-trace")]["bw"] = rate

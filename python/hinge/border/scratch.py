@@ -43,7 +43,9 @@ def holding(path: Union[str, Path]) -> Iterator[int]:
 
 @contextmanager
 def alone(folder: str, patience: float) -> Iterator[None]:
-    """Locks a folder for those who take a name in it. BlockingIOError: another program keeps the lock for so many seconds."""
+    """Locks a folder while the caller takes a name there. BlockingIOError: another program keeps the lock for this many
+    seconds.
+    """
     until = time.monotonic() + patience
     with holding(folder) as place:
         while True:

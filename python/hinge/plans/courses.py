@@ -18,7 +18,7 @@ ANY: Port = ("",)  # any port that a line cuts
 
 
 def joined(spans: list[tuple[int, int]]) -> list[int]:
-    """Returns the moments at which spans of time begin and end by turns, where they are joined."""
+    """Returns the starts and ends of time spans, alternating, after joining overlapping spans."""
     turns = list[int]()
     for begin, end in sorted(spans):
         if turns and begin <= turns[-1]:
@@ -52,7 +52,7 @@ class Course:
         self.longest.clear()
 
     def hold(self, until: int) -> Optional[Event]:
-        """Returns the hold that ends last, of those before a moment."""
+        """Returns the last-ending hold among holds before a moment."""
         if not self.longest:
             self.longest += accumulate(self.holds, lambda one, other: other if other.end > one.end else one)
         before = bisect_left(self.holds, (until,))
@@ -78,11 +78,11 @@ class Course:
         return place < len(self.holds) and self.holds[place].moment == moment
 
     def ports_of(self, packet: list[str]) -> list[Port]:
-        """Returns the ports of a packet that lines cut or heal."""
+        """Returns a packet's ports that lines cut or heal."""
         return sorted({(packet[2], port) for port in packet[3:5]} & self.ports)
 
     def spans(self) -> dict[tuple[Port, bool], list[tuple[int, int]]]:
-        """Returns when each cut goes on, certainly or perhaps: up to its end, or to the first heal behind it."""
+        """Returns when each cut is certainly or possibly in force: up to the end, or up to the next heal."""
         result = defaultdict[tuple[Port, bool], list[tuple[int, int]]](list)
         heals: dict[tuple[Port, int], list[int]] = {
             (port, doubt): [

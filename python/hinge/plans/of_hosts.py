@@ -62,8 +62,10 @@ class OfHosts:
                 insort(self.ends_of[one.host, one.kind], one.moment)
 
     def from_stopped(self, moment: int, packet: list[str]) -> None:
-        """Reports datagrams from a stopped or killed host, whose kernel answers but never sends one by itself. `hinge exec` may run
-        programs on a killed host. What excuses a packet excuses later ones, so that one packet decides about each fault."""
+        """Reports datagrams from a stopped or killed host, whose kernel answers but never sends one by itself. `hinge exec` may
+        run programs on a killed host. An excuse for a packet also excuses later ones, so one packet decides about each
+        fault.
+        """
         host = self.own.get(packet[0], "") if packet[2] == UDP and not self.ends else ""
         for kind in ENDS if self.tells_entries else ("stop",):
             faults = self.stops[host, kind]
@@ -120,7 +122,7 @@ class OfHosts:
         self.acts.append((moment, word, host))
 
     def requested(self) -> Iterator[tuple[int, str, str, Event, Optional[int]]]:
-        """Yields the acts that lines request, in order, each with the place of the first act that can be it."""
+        """Yields the requested acts in order, each with the first act that can fulfil the request."""
         for moment, word, host, event in sorted(self.expected(), key=lambda one: (one[0], one[3].place)):
             places = self.places[host, word]
             while places and self.acts[places[0]][0] < moment - MS:

@@ -42,7 +42,7 @@ def greatest(column: Integers) -> Optional[int]:
 
 
 def chosen(column: Integers, choice: Mask) -> Integers:
-    """Returns the chosen places of a column, which is copied only if there are others."""
+    """Returns a column's chosen places; copies only if there are others."""
     return column if choice.all() else column[choice]
 
 

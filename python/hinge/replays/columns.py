@@ -268,7 +268,7 @@ Change = tuple[int, int, str]  # the record of a command that was obeyed, the cl
 
 @dataclass(frozen=True)
 class Told:
-    """The content of a history, which is steady if all commands came before the first submit."""
+    """A history's content, which is steady if all commands precede the first submit."""
 
     rows: Rows
     changes: list[Change]
@@ -280,8 +280,9 @@ class Told:
 
 
 def read_told(path: str, kind: str, widths: Widths) -> Told:
-    """Returns a history's content or, with `net`, the content of a transcript with its remarks on packets. A history's last columns,
-    the records of calls, are read only if commands come among packets, or packets pass a second pipe."""
+    """Returns a history's content or, with `net`, a transcript's content with the remarks on packets. The last columns, the
+    calls' records, are read only if commands come among packets, or packets pass a second pipe.
+    """
 
     def take(answer: Answer) -> Told:
         count, targets, tuples, changes, remarks, records, first, last_line, is_whole = answer.numbers(9)

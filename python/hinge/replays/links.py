@@ -154,7 +154,7 @@ class Parts:
         return found
 
     def delay_and_behind(self, rows: slice) -> tuple[Integers, Integers]:
-        """Returns rows' delays, and the ns for which each stayed behind its predecessor on a link whose delay became shorter."""
+        """Returns rows' delays, and the ns for which each row stayed behind the previous row on a link with a shortened delay."""
         replay, delay = self.replay, self.configuration.values(self.carrier[rows], delay_of)
         left = replay.due[rows] - replay.start[rows] - self.transmission[rows] - delay
         return delay, np.where(replay.is_out[rows], left, 0)

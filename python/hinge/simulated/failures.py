@@ -90,7 +90,9 @@ def failure_command(words: "list[str]", command: str) -> "list[str]":
         return words
     first, *others = map(str, record[WORDS])
     if first != command:
-        raise Fault(f"{LIKE} {like_file(words)}: it is a failure of `hinge {first}`: hinge {first} {LIKE} {like_file(words)}", USAGE)
+        raise Fault(
+            f"{LIKE} {like_file(words)}: it is a failure of `hinge {first}`: hinge {first} {LIKE} {like_file(words)}", USAGE
+        )
     if "--" in words:
         raise Fault(f"{LIKE} {like_file(words)}: it has a command of its own; leave out yours", USAGE)
     place = others.index("--") if "--" in others else len(others)

@@ -104,7 +104,7 @@ class Baton:
         return member.is_ready
 
     def _left(self, member: Member, ready: Ready, seconds: Optional[float]) -> bool:
-        """Continues a wait as an ordinary thread: a pool's processes would stay if the threads that end them ended."""
+        """Continues a wait as an ordinary thread, since a pool's processes would stay if the threads that end them ended."""
         of_run.discard(threading.get_ident())
         leave()
         until = own_time() + (math.inf if seconds is None else seconds)
@@ -119,14 +119,16 @@ class Baton:
         return self.members.get(threading.get_ident())
 
     def holds(self) -> bool:
-        """Lets real time pass if a thread waits for a process; returns whether one does, and no other thread needs the next ns."""
+        """Lets real time pass if a thread waits for a process; returns whether one does while no other thread needs the next
+        ns.
+        """
         if not any(member.is_held() for member in self.members.values()):
             return False
         pause()
         return self.until() > self.loop.clock.now + 1
 
     def look(self) -> None:
-        """Counts a look of the loop's thread that met nothing. RealTimeError: that thread looks again and again, as if it waited."""
+        """Counts the loop thread's looks without a result. RealTimeError: the thread looks repeatedly, as if waiting."""
         self.loop.clock.looks += 1
         if self.loop.clock.looks > MOST_LOOKS:
             raise RealTimeError(BLOCKS + ALLOWED)
@@ -241,7 +243,7 @@ class Baton:
         return sentinel
 
     def really(self, wait: Callable[[float], bool], timeout: Optional[float], is_of_process: bool = False) -> Really:
-        """Returns a wait of the loop's thread for a thread of the system or, without threads of the run, for a process."""
+        """Returns the loop thread's wait for a system thread or, without threads in the run, for a process."""
 
         def really() -> Optional[bool]:
             if _thread._count() <= len(self.members) and (self.members or not is_of_process):

@@ -190,7 +190,9 @@ class Loop(asyncio.BaseEventLoop):
         return transport, protocol
 
     def _bound(self, local: Optional[Address], remote: Optional[Address], family: int, shares: bool) -> Endpoint:
-        """Returns an endpoint at a local address, connected to the remote address if any. NotImplementedError: it is Unix's."""
+        """Returns an endpoint with a local address, connected to the remote address if any. NotImplementedError: the address is
+        a Unix socket's.
+        """
         if family == socket.AF_UNIX or isinstance(local or remote, str):
             raise NotImplementedError(NO_SYSTEM)
         names = [plain(it[0] or "localhost") for it in (local, remote) if it]

@@ -31,8 +31,9 @@ def quiet(hook: Callable[[Any], object]) -> Callable[[Any], object]:
 
 
 def bounded_pipe(seconds: float = PATIENCE) -> tuple[int, int]:
-    """Returns a pipe whose reads time out. C code that sleeps or waits for descriptors counts as real, but C code that reads one
-    doesn't."""
+    """Returns a pipe with a timeout for reads. C code that sleeps or waits for descriptors counts as real, but not C code that
+    reads a descriptor.
+    """
     reader, writer = socket.socketpair()
     reader.setsockopt(socket.SOL_SOCKET, socket.SO_RCVTIMEO, struct.pack("@ll", int(seconds), round(seconds % 1 * 1e6)))
     return reader.detach(), writer.detach()

@@ -104,7 +104,7 @@ class RealUses:
 
 
 class Sum:
-    """The real calls and the refusals in all of the process's runs since the last reset, for reports on several runs."""
+    """The real calls and refusals in all runs since the last reset, for a report on several runs."""
 
     def __init__(self) -> None:
         self.runs, self.calls, self.refused = 0, Counter[str](), 0
