@@ -52,6 +52,7 @@ def refuse(words: list[str], program: str = "hinge") -> None:
     import shlex
 
     from hinge.border import terminal
+    from hinge.border.programs import become
     from hinge.foreign import answer_of
     from hinge.misplaced import advised, filled, kind_of, line_for
     from hinge.program import dummynet
@@ -59,7 +60,7 @@ def refuse(words: list[str], program: str = "hinge") -> None:
     if program == "dummynet" and words[0] in ("audit", "replay"):
         wrong = advised(words[0], words[1:], "")
         if not wrong:
-            os.execv(dummynet(), [program, *words])
+            sys.exit(become([dummynet(), *words]))
         terminal.tell(f"{program}{wrong.replace(';', ':', 1)}")
         sys.exit(USAGE)
     answer, near = answer_of(words), difflib.get_close_matches(words[0], COMMANDS, 1)
