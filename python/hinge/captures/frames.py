@@ -14,7 +14,7 @@ from hinge.border.files import Input, untrusted
 from hinge.border.programs import PIPE, Process, begun, how_ended
 from hinge.border.scratch import unnamed
 from hinge.captures.capture_reader import plain_capture
-from hinge.command import ROWS, Fault, say
+from hinge.command import FILES, ROWS, Fault, say
 from hinge.program import packets
 
 NAME = "hinge-packets"
@@ -101,7 +101,7 @@ class Capture:
             status = self.program.wait()
             if status in SYSTEM:
                 raise OSError(int(text), os.strerror(int(text)))
-            raise Fault(prefix + (text if status == FAULT else f"{NAME} {how_ended(status)}"), ROWS)
+            raise Fault(prefix + text, ROWS) if status == FAULT else Fault(f"{NAME} {how_ended(status)}", FILES)
         return data
 
     def address_of(self, number: int) -> str:
@@ -139,6 +139,8 @@ class Capture:
         originals = array("I", self.whole(4 * counts.stand_ins))
         meetings = MEETING.iter_unpack(self.whole(MEETING.size * counts.meetings))
         hosts = [(target, self.address(first), self.address(second)) for target, first, second in meetings]
+        if status := self.program.wait():
+            raise Fault(f"{NAME} {how_ended(status)}", FILES)
         return counts, [*map(self.address, originals)], hosts
 
 

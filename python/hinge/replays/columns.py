@@ -12,7 +12,7 @@ from hinge.arguments import is_number
 from hinge.border.files import LONGEST_LINE, MOST_TABLE, Exceeded, opened, read_again, untrusted
 from hinge.border.programs import PIPE, Process, begun, how_ended
 from hinge.border.scratch import memory, unnamed
-from hinge.command import ROWS, Fault, working
+from hinge.command import FILES, ROWS, Fault, working
 from hinge.lazy import Integers, few as np
 from hinge.program import packets
 from hinge.replays.record_lines import rows_of, without_quotes
@@ -128,10 +128,12 @@ class Quoted(Exception):
 
 @contextmanager
 def asked(source: BinaryIO, words: Iterable[str], refuse: Callable[[int, str], object]) -> Iterator[Answer]:
-    """Yields the program's answer about a file."""
+    """Yields the program's answer about a file. An answer that was read whole counts if the program ended well."""
     with begun([packets(), "columns", *words], stdin=source, stdout=PIPE, stderr=PIPE) as program:
         try:
             yield Answer(program, refuse)
+            if not cast(Any, program.stdout).read(1) and (status := program.wait()):
+                refuse(status, "")
         finally:
             program.kill()
 
@@ -152,7 +154,8 @@ def read_columns(
             raise Fault(f"{path} line 1: the header isn't {','.join(fields)}", ROWS)
         if status == BAD_ROW:
             raise located(path, file.path, fields, int(text))
-        text = text if status == FAULT else f"hinge-packets {how_ended(status)}"
+        if status != FAULT:
+            raise Fault(f"hinge-packets {how_ended(status)}", FILES)
         raise Fault(f"{path}{'' if text.startswith(' ') else ': '}{text}", ROWS)
 
     header = (",".join(fields),) if fields else ()

@@ -101,7 +101,7 @@ class Hostile(unittest.TestCase):
         killed = self.made("killed", b"#!/bin/sh\nkill -SEGV $$\n")
         killed.chmod(0o755)
         for env, words, status, line in (
-            ({"HINGE_PACKETS": str(killed)}, (), 4, "hinge-packets was ended by SIGSEGV"),
+            ({"HINGE_PACKETS": str(killed)}, (), 6, "hinge-packets was ended by SIGSEGV"),
             ({}, ("-o", "/dev/full"), 6, "No space left on device"),
         ):
             done = run("packets", MIXED, *words, env={**os.environ, **env})
