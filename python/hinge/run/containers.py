@@ -21,12 +21,15 @@ def process_of(name: str) -> str:
     engine answers."""
     engines, others, faults = [engine for engine in ENGINES if shutil.which(engine)], list[str](), list[str]()
     for engine in engines:
-        all_names = said(engine, "ps", "--format", "{{.Names}}")
+        all_names = said(engine, "ps", "--format", "{{.Names}} {{.Image}}")
         if all_names.status:
             faults += [line for line in all_names.told.splitlines() if line][-1:]
             continue
-        others += all_names.text.split()
+        running = [line.partition(" ")[::2] for line in all_names.text.splitlines()]
+        others += [one for one, _ in running]
         same = said(engine, "ps", "--format", "{{.Names}}", "--filter", f"ancestor={name}").text.split()
+        # podman's filter knows no image without its registry
+        same = same or [one for one, image in running if f"/{image}".removesuffix(":latest").endswith(f"/{name}")]
         if len(same) > 1:
             raise Wrong(f"--container {name}: several containers of this image run; write one of {', '.join(same)}")
         for one in (name, *same):

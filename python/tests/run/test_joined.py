@@ -140,7 +140,7 @@ case "$*" in
 *ancestor=nginx) echo web ;;
 *ancestor=redis) printf 'one\\ntwo\\n' ;;
 *ancestor=*) ;;
-ps*) printf 'web\\none\\ntwo\\n' ;;
+ps*) printf 'web localhost/box:1\\none docker.io/library/pg:latest\\ntwo docker.io/library/pg:latest\\n' ;;
 *inspect*web) echo 4711 ;;
 *inspect*old) echo 0 ;;
 *) echo "no such container" >&2; exit 125 ;;
@@ -168,7 +168,9 @@ class Containers(WithFolder):
         for name, wanted in (
             ("web", "4711"),
             ("nginx", "4711"),
+            ("box:1", "4711"),
             ("redis", "several containers of this image run; write one of one, two"),
+            ("pg", "several containers of this image run; write one of one, two"),
             ("old", "it doesn't run; write podman start old before it"),
             ("x", "no container or image of this name runs; write one of web, one, two"),
         ):
