@@ -128,7 +128,7 @@ def pytest_run(folder: Path, text: str) -> float:
 
 
 def least(rounds: int, call: Callable[[], object]) -> float:
-    """Processor s of a call."""
+    """Makes a call in each of some rounds, and returns the shortest processor time of a call in seconds."""
     found = []
     for _ in range(rounds):
         begun = time.process_time_ns()

@@ -202,7 +202,9 @@ def mark(name: str, rate: float) -> str:
 
 
 def worst(pages: dict[str, list[Sentence]]) -> None:
-    """Prints the sentences with the most habits a word, and the figures of all."""
+    """Prints the 60 sentences with the most habits per word, each with the advice for its habits, and then a table of the rates
+    over all sentences.
+    """
     rows = []
     for name, these in pages.items():
         for it in these:

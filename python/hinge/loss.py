@@ -28,7 +28,9 @@ class Words(Protocol):
     """The words of a direction's packets, in order."""
 
     def next(self) -> int:
-        """Returns the next packet's word, 0 to 2^31 - 1."""
+        """Returns the number that decides whether the direction's next packet is lost, from 0 to 2^31 - 1. The link loses the
+        packet if the number is below the loss rate times 2^31.
+        """
 
 
 @dataclass

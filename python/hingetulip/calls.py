@@ -1,4 +1,6 @@
-"""What shapers, callers, audits and services share: calls in turn, and the library's memory that is held until a close."""
+"""Base classes and helpers that shapers, callers, audits and services share. They allow only one call at a time, and keep the
+library's memory until `close` frees it.
+"""
 
 from __future__ import annotations
 

@@ -96,7 +96,9 @@ class Link(NamedTuple):
 
 
 def number_alone(word: str, following: str) -> tuple[str, Advice]:
-    """Of a number without a unit, which may be the next word."""
+    """Returns the wrong word and the advice for a number without a unit. If the next word is a unit, the advice is to join the
+    two words.
+    """
     if not re.fullmatch(UNIT, following):
         return word, Advice("a number without a unit", f"write {word}ms for a delay, {word}Mbit/s for a bandwidth or queue {word}")
     joined = word + following

@@ -85,7 +85,9 @@ def build(name: str, folder: Path, library: Path) -> Path:
 
 
 def environment(folder: Path, python: str) -> dict[str, str]:
-    """Returns the environment that names the hosts and makes each Python count."""
+    """Builds the hosts for coverage and prepares `folder`. Returns the environment variables with which tests use these hosts
+    and every Python process runs under coverage.py.
+    """
     library = Path(
         subprocess.run([TOP / "tools" / "release" / "library"], stdout=subprocess.PIPE, text=True, check=True).stdout.strip()
     )

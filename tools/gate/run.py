@@ -82,7 +82,10 @@ def keep_program(sum: str) -> None:
 
 
 def quick_program() -> Path:
-    """Returns the program for a quick answer: DUMMYNET's, otherwise that of ./dummynet."""
+    """Returns the path of the program for a quick check. The environment variable DUMMYNET can name the program; otherwise the
+    path is the program built from the current sources, or the released program if its sources are the current ones and no
+    build exists.
+    """
     sum = sources()
     released, built = TOP / "release" / "dummynet", TOP / "built" / sum / "dummynet"
     is_released = (TOP / "release" / "sources").read_text().strip() == sum and not built.exists()

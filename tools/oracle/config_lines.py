@@ -218,7 +218,9 @@ def read_action(words: Words) -> tuple[int, bool]:
 
 
 def read_option(words: Words, is_pipe: bool, found: dict[str, Any]) -> None:
-    """Reads the value of the option whose first word was taken last, under its name in the command."""
+    """Reads the value of the option whose name `words` returned last, and stores the value in `found`. LineFault: the option is
+    unknown here, or the value is wrong.
+    """
     option, at = words.words[words.taken - 1], words.position
     if option in LEFT_OUT_WORDS:
         raise LineFault(LEFT_OUT, at)

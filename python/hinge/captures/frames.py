@@ -130,7 +130,7 @@ class Capture:
 
     def write(self, targets: "array[int]") -> tuple[FrameCounts, list[str], list[tuple[int, str, str]]]:
         """Writes the rows of `frames` for these targets (0: no target). Returns the counts, the stand-ins' IPv6 addresses, and the
-        meetings: a target, the host that sends first, and the other host."""
+        meetings: a target, the host that sends first, and the other host. Fault: the program didn't end well."""
         questions = cast(BinaryIO, self.program.stdin)
         with suppress(BrokenPipeError):
             questions.write(targets.tobytes())

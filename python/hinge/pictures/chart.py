@@ -102,7 +102,9 @@ def draw_panel(axes: Axes, panel: Panel) -> None:
 
 
 def finish_panel(axes: Axes, panel: Panel, drawing: Drawing) -> int:
-    """Sets the limits and the grid, and names items other than flows; returns the number of rows with names."""
+    """Sets a panel's limits, grid and tick labels, and adds a legend for all plotted items except flows. Returns the number of
+    rows in that legend.
+    """
     axes.grid(alpha=0.3)
     if panel.from_zero:
         axes.update_datalim([(0, 0)], updatex=False)

@@ -41,8 +41,9 @@ def judged(session: str, path: Optional[str] = None, limit: Optional[int] = None
 
 
 def judged_run(path: str) -> Optional[Judge]:
-    """Returns the check of a run's transcript by its recorded words; None for transcripts from older versions, which contain no
-    words. Fault: the transcript can't be checked."""
+    """Checks a run's transcript against the command-line options recorded in it. Returns the check with its faults, or None if
+    an older version wrote the transcript without the options. Fault: the transcript can't be checked.
+    """
     if b"\n#,asked," not in read_front(path, FRONT):
         return None
     return judged_by(

@@ -63,7 +63,9 @@ class Source:
             yield from late_remark(self.most_late("late"), self.most_late("unread"))
 
     def most_late(self, kind: str) -> float:
-        """Returns the maximum lateness of a live host in both ways, in ms."""
+        """Returns a live host's maximum delay of one kind over both directions, in ms: `late` for late work, `unread` for
+        packets that waited to be read.
+        """
         return max(float(way[kind][1].max(initial=0)) for way in self.lateness.values())
 
 

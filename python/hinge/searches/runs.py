@@ -41,7 +41,9 @@ class SearchSettings(NamedTuple):
 
 
 class RunFiles(NamedTuple):
-    """A run's files, beside its summary, for a look into its machine."""
+    """Settings for a run whose machine a search examines afterwards: extra lines for /proc/pauses, the processes that leave a
+    core, and the transcript's path.
+    """
 
     more: "tuple[str, ...]" = ()  # as in Settings
     cores: str = NONE

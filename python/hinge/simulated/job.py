@@ -37,7 +37,9 @@ class Job(NamedTuple):
     rooms: Sequence[str] = ()  # the plan of the rooms in which the command is, where it is in some
 
     def text(self, *settings: str) -> bytes:
-        """Returns strings that end in 0, for the machine's first process."""
+        """Returns the settings, user, folder, command, environment and rooms as NUL-terminated strings, which the machine's
+        first process reads.
+        """
         user = [str(os.getuid()), str(os.getgid()), " ".join(map(str, os.getgroups())), f"{mask():o}"]
         words = [*settings, *user, folder(), str(len(self.words)), *self.words, *self.names, "", *(self.rooms or ["command"])]
         return words_in_bytes(words)

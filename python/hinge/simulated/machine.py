@@ -135,8 +135,10 @@ class Machine:
         (self.folder / "init").chmod(0o755)
 
     def started(self, kernel: Kernel, settings: Settings) -> "Process[bytes]":
-        """Starts the kernel; returns its process. A static kernel with glibc 2.35 or later registers memory for restartable
-        sequences. The machine's processes unmap that memory, so the first of them would crash."""
+        """Starts the kernel and returns its process. The kernel runs with glibc's restartable sequences switched off: a static
+        kernel with glibc 2.35 or later registers memory for them, and crashes when the machine's first process unmaps that
+        memory.
+        """
         names = {**os.environ, "TMPDIR": self.room.memory, "GLIBC_TUNABLES": "glibc.pthread.rseq=0"}
 
         def begin() -> None:

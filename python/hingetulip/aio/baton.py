@@ -187,7 +187,9 @@ class Baton:
         return min((member.until for member in self.members.values()), default=NEVER)
 
     def close(self) -> None:
-        """Ends all threads, where they wait. If the run leaves processes, the threads leave the run instead."""
+        """Ends each thread at the point where the thread waits. If processes of the run still exist, the threads continue as
+        ordinary threads outside the run instead.
+        """
         self.is_closing, self.is_leaving = True, self.loop.net.real_uses.has_processes()
         with mock.patch.object(threading, "excepthook", quiet(threading.excepthook)):
             self.turns()

@@ -17,7 +17,9 @@ def said(words: str) -> str:
 
 
 class Options:
-    """A pipe's or queue's options, by their full names, and the drawn effects beside them. LineError: a word is unknown."""
+    """The options of a pipe or queue. `settings` contains them under their full names, and `extra` contains the random effects
+    that dummynet lacks, such as jitter and duplicates. LineError: a word is unknown.
+    """
 
     def __init__(self, text: str = "", kind: str = "pipe", has_model: bool = False, place: Place = Place.DUMMYNET) -> None:
         """With `has_model`, the link gets the loss rate at which the model decides."""

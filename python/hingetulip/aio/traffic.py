@@ -121,7 +121,9 @@ class Traffic:
         return None
 
     def _enter(self, way: Way, it: Datagram, length: int, number: int, is_second: bool = False) -> None:
-        """A packet's datagram enters a link. The second copy is never lost by the link's words, and draws none."""
+        """Submits a datagram to the emulator as a packet on a link, and records the outcome. The second copy of a doubled
+        packet draws no number from the loss model, so random losses never affect the copy.
+        """
         self.rows += 1
         link, now = way.link, self.loop.clock.now
         if link.classify is None:

@@ -147,8 +147,10 @@ class Changed(unittest.TestCase):
     """Histories in which links are changed and deleted between packets."""
 
     def test_random_histories_against_the_reference(self) -> None:
-        """Every figure in each row equals the reference's, including the packets ahead and the waiting packets; held packets leave
-        as in the reference that continues, and packets that the reference discards are discarded."""
+        """For 60 random histories, the explanation of each packet agrees with the reference emulator. The parts of a delay add
+        up, a packet dropped at a full queue has the same packets ahead, and held packets leave or are discarded in the same
+        way as in a reference that continues.
+        """
         kinds: Counter[str] = Counter()
         for seed in range(60):
             rng = Random(seed)

@@ -15,7 +15,9 @@ from hinge.run.page import Way
 @needs_host
 class OfPlans(unittest.TestCase):
     def obeyed(self, plan: str, end: int = 60_000_000) -> list[str]:
-        """Returns the lines that a link obeys, without the first."""
+        """Runs two pipes with this plan until `end` ns. Returns the configuration lines that the link applied, without the two
+        lines that created the pipes.
+        """
         link = Linked("line pipe 1 config delay 5 plr 0.5\nline pipe 2 config\n" + plan + f"at {end} remark end\n")
         until(lambda: link.page.read()["moment"] >= end)
         ended = link.end()
