@@ -101,7 +101,8 @@ class Capture:
             status = self.program.wait()
             if status in SYSTEM:
                 raise OSError(int(text), os.strerror(int(text)))
-            raise Fault(prefix + text, ROWS) if status == FAULT else Fault(f"{NAME} {how_ended(status)}", FILES)
+            told = (prefix + text, ROWS) if status == FAULT else (f"{NAME} {how_ended(status)}", FILES)
+            raise Fault(*told)
         return data
 
     def address_of(self, number: int) -> str:
