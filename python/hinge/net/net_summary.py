@@ -14,7 +14,7 @@ from hinge.run.hints import lacking
 from hinge.run.order import told_status
 from hinge.run.page import Counts
 from hinge.run.processes import Ended, name_of
-from hinge.run.summary import SELDOM, VOID, host_record, way_record
+from hinge.run.summary import FORMAT, SELDOM, VOID, host_record, way_record
 from hinge.run.verdict import Awaited, Waits, late_acts, verdict
 
 MOST_SHOWN, MOST_DRAWN = 3, 50  # changes in a line, and lines of what was drawn
@@ -150,6 +150,7 @@ def report_net(order: NetOrder, ran: NetRan, waits: Optional[Waits], tell: Calla
         *warnings,
     ]
     told_all = {
+        "format": FORMAT,
         "status": ran.status,
         "seed": order.seed,
         "void": faults,

@@ -56,7 +56,7 @@ class OfRooms(InAFolder):
             f"host a\nhost c\nmain b {PING} c && ! ping -c 3 -i 0.2 -W 1 -q a\nlink a b\nlink b c\nlink a c\nat 0s cut" " a 1h\n"
         )
         lost = {f"{way['from']} > {way['to']}": way["lost"] for way in self.summary()["ways"] if way["came"]}
-        assert (done.returncode, lost) == (0, {"b > a": 3, "b > c": 0, "c > b": 0}), done.stderr
+        assert (done.returncode, lost, self.summary()["format"]) == (0, {"b > a": 3, "b > c": 0, "c > b": 0}, 1), done.stderr
 
     def test_queues_and_rules_of_a_link(self) -> None:
         done = self.net(
