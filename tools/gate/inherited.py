@@ -85,7 +85,7 @@ SCARCE: dict[str, Callable[[], None]] = {
         for name, most in (("RLIMIT_NOFILE", 20), ("RLIMIT_FSIZE", 0), ("RLIMIT_AS", 30 << 20), ("RLIMIT_AS", 22 << 20))
     },
 }
-NO_REASON = (1, 70)  # of a verdict, and of a defect
+NO_REASON, MISSING = (1, 70), 7  # of a verdict, and of a defect; of hinge doctor, which tells what can't begin
 
 
 class Ended(NamedTuple):
@@ -156,8 +156,9 @@ def check_crowded(tally: Tally, folder: Path, program: str) -> None:
     another = AS_ANOTHER if os.geteuid() == 0 else []
     for words in [*COMMANDS, INSTALL, *FORKING]:
         usual = Ended(0, "", "") if words in FORKING else ended(words, folder, program)
-        fault = crowded_fault(words, usual, ended([*another, *words], folder, program, begin))
-        tally.note(f"{' '.join(words)}, no second process", fault)
+        alone = ended([*another, *words], folder, program, begin)
+        is_answer = words[-1] == "doctor" and alone.status == MISSING and "can't begin" in alone.stdout
+        tally.note(f"{' '.join(words)}, no second process", "" if is_answer else crowded_fault(words, usual, alone))
 
 
 def hosts(stack: ExitStack, folder: Path) -> Iterator[tuple[list[str], str]]:
