@@ -80,7 +80,9 @@ ROWS = (
     Row("libtorrent", REAL, "import libtorrent", "TORRENT", "libtorrent"),
     Row("logging", EXACT, "import logging.handlers as h", "h.SysLogHandler(AWAY).emit(h.logging.makeLogRecord({}))", "None at 0"),
     Row("logging", REFUSED, "import logging.handlers as h", "h.SysLogHandler(AT, 1, 1)", TCP),
-    Row("aiohttp", REFUSED, "from aiohttp import test_utils as t, web", "await t.TestServer(web.Application()).start_server()", TCP),
+    Row(
+        "aiohttp", REFUSED, "from aiohttp import test_utils as t, web", "await t.TestServer(web.Application()).start_server()", TCP
+    ),
     Row(
         "zmq",
         REAL,
