@@ -183,7 +183,7 @@ def in_place(command: str, before: str, word: str) -> str:
         lines["--faults"] = "--faults FILE, with a line `client > server packet 3 lost` in FILE" * (" " in word)
         lines |= {f"--{way}-trace": f"--{way} {shlex.quote(link or '')}" * bool(link) for way in ("up", "down")}
         return lines.get(before, "")
-    if command in OF_NETS and before == "" and not word.startswith("-"):
+    if command in OF_NETS and before == "" and not word.startswith("-") and (command, word) != ("search", "run"):
         beside = f"{word}.net"
         is_no_file = " " in word or "." not in word
         return f"hinge {command} {shlex.quote(beside)}" if os.path.exists(beside) else A_NET * is_no_file
