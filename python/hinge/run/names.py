@@ -29,7 +29,10 @@ def socket_of(text: str) -> str:
 
 def running() -> str:
     """Returns the names of this user's runs, for a refusal."""
+    from hinge.border.asking import is_answered  # which a wrong name alone needs
+
     names = sorted(os.listdir(own_folder())) if os.path.isdir(folder_of_names()) else []
+    names = [name for name in names if is_answered(os.path.join(own_folder(), name))]
     return f"; these run: {', '.join(names)}" if names else ", from `hinge up` or --control"
 
 
