@@ -12,7 +12,7 @@ from functools import lru_cache
 from typing import Callable, Collection, Mapping, NamedTuple, Optional, Sequence
 
 from hinge.command import Fault
-from hinge.foreign_options import OF_LINK, OPTIONS
+from hinge.foreign_options import OF_LINK, OPTIONS, filled, one_way
 from hingetulip_words.foreign import STRICT, Meant, number
 from hingetulip_words.link import LEFT_OUT, Place, corrected, in_full, link_before, read_link
 from hingetulip_words.presets import PRESETS, either_way
@@ -285,11 +285,11 @@ def of_options(typed: Sequence[tuple[str, str]], given: Mapping[str, Sequence[st
     )
     parts += [f"in place of --preset {name}"] * bool(name)
     for option, value in ((option, value) for option, value in typed if option in OPTIONS):
-        forms = OPTIONS[option][0].split(", or ")
+        forms, value = one_way(option, value)
         words = shlex.quote((corrected(value) or value) if forms[0].startswith(("--link", "--up ", "--down ")) else value)
         own = [form for form in forms if {*re.findall(r"(?<!\S)--[\w-]+", form.partition("hinge ")[0])} <= {*names}]
         meant.left += [f"{option} here"] * (not own)
-        parts += ["; write " * bool(parts and form[0] != "-") + form.format(words) for form in filter(None, [", or ".join(own)])]
+        parts += ["; write " * bool(parts and forms[0][0] != "-") + filled(", or ".join(own), words)] * bool(own)
     notes = [f"write {' '.join(parts)}".replace(" ; ", "; ")] * bool(parts)
     notes += ["10Mbit/s is an example, as no packet waits without a bandwidth"] * is_idle
     notes += [f"no link does: {what}" for what in meant.left] + [f"{what!r} isn't such a value" for what in meant.rest]

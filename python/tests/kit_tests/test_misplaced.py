@@ -107,6 +107,11 @@ run --preset dsl --loss 1% -- true  =>  write --up '384Kbit/s 25ms queue 10 loss
 run --up 20ms --loss 1% -- true  =>  write --up '20ms loss 1%' --down 'loss 1%'
 run --server python3 -m http.server -- true  =>  write --server 'python3 -m http.server'
 run --seeds 1-9 -- true  =>  write hinge search --seeds 1-9 run, with the other words behind it
+run --seeds many -- true  =>  write hinge search --seeds 1-100 run, with the other words behind it
+run --trace down:FILE.late -- true  =>  --trace: write --down-trace FILE.late
+run --outage up:2s -- true  =>  write --timeline FILE with a line `5s up outage 2s` in FILE
+run --outage long -- true  =>  write --timeline FILE with a line `5s outage 1s` in FILE
+run --both up:20ms -- true  =>  --both: write --up 20ms
 run --outside=yes -- true  =>  argument --outside: it has no value; leave out 'yes'
 run --wait 5s -- true  =>  did you mean --server-wait?
 run --link 'delay 20 ms, loss 1 %' -- true  =>  in full: 'delay 20ms loss 1%'
