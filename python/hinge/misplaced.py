@@ -25,6 +25,7 @@ OF_CAPTURES = rb"\xd4\xc3\xb2\xa1|\xa1\xb2\xc3\xd4|\x4d\x3c\xb2\xa1|\xa1\xb2\x3c
 TABLE = (
     ("capture", OF_CAPTURES, "a capture", "hinge packets {0} -o packets.csv"),
     ("picture", rb"\x89PNG|%PDF|<\?xml|<svg|(?i:<!doctype html|<html)", "a picture or page, which hinge only writes", ""),
+    ("python", rb"(import \w|from [\w.]+ import )", "a Python program", "hinge run --link 20ms -- python3 {0}"),
     ("program", rb"#!|\x7fELF", "a program", "hinge run --link 20ms -- {0}"),
     ("history", rb"dummynet-(history|live)", "a history", "hinge look {0}"),
     ("report", rb"event,row,flow", "a replay's report", "hinge look PACKETS {0}"),
@@ -187,6 +188,8 @@ def in_place(command: str, before: str, word: str) -> str:
         beside = f"{word}.net"
         is_no_file = " " in word or "." not in word
         return f"hinge {command} {shlex.quote(beside)}" if os.path.exists(beside) else A_NET * is_no_file
+    if command == "change" and before == "" and link:
+        return f"hinge change NAME {shlex.quote(link)}"
     if command == "search" and re.fullmatch(r"\d+[-,]\d+", word) and not before.startswith("-"):
         return f"--seeds {word}"
     if command == "packets" and " " in word and not before.startswith("-"):
@@ -213,6 +216,8 @@ def advised(command: str, words: Sequence[str], refusal: str) -> str:
     """Returns a refusal for a command line, with the line to type if a word belongs elsewhere."""
     own = words[: words.index("--")] if "--" in words else words
     own = [] if re.search("[:;] write ", refusal) else own  # which says it already
+    if command == "search" and "--" in words and "required: FILE" in refusal:
+        return f"{refusal}; write hinge search {shlex.join([*own, 'run', *words[len(own) :]])}"
     if command == "try" and own and (name := near(own[0])):
         return f"{refusal}; write --preset {name}"
     if line := line_for_word(command, own) or MEANT.get(f"{command} *", "") * ("unrecognized" in refusal):

@@ -17,6 +17,7 @@ FRONT = {  # of a file of each kind, which comments and blank lines may precede
     "capture": b"\xd4\xc3\xb2\xa1",
     "picture": b"\x89PNG\r\n\x1a\n\0",
     "program": b"#!/bin/sh",
+    "python": b"# a test\nimport socket\n",
     "history": b"dummynet-history,3",
     "report": b"event,row,flow,packet",
     "packets": b"moment,target",
@@ -86,6 +87,9 @@ look -- --quiet  =>  ./--quiet: No such file or directory
 try 10Mbit/s  =>  write hinge run --link '10Mbit/s 20ms' -- COMMAND, as hinge try takes presets alone
 run --link none -- true  =>  'none': no word of a link; write bw 0, which slows nothing
 docs tc  =>  no page 'tc'; write hinge docs LINKS
+change 20ms  =>  WORDS is missing, as in `hinge change link.socket up 1Mbit/s 50ms`; write hinge change NAME 20ms
+search --seeds 1-3 -- true  =>  write hinge search --seeds 1-3 run -- true
+net FILE.python  =>  FILE.python is a Python program; write hinge run --link 20ms -- python3 FILE.python
 change FILE.net 20ms  =>  Connection refused; FILE.net is a network; write hinge up FILE.net, and hinge change FILE WORDS
 --debug run --link 20ms -- true  =>  no command '--debug'; write hinge run --link 20ms -- true
 --not-of-dummynet audit FILE.report  =>  dummynet: FILE.report is a replay's report; write hinge look PACKETS FILE.report
