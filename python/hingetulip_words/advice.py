@@ -20,66 +20,9 @@ OTHER_NAMES = {
     **{"prio": "weight", "netmask": "mask"},
 }
 UNIT = rf"(?i:{FACTOR}{PER_SECOND}|{FACTOR})|ms|KB|Kbytes?"
-ALONE = "kill|stop|cont|restart|crash"
-HOST = r"([A-Za-z][\w-]*)"
-ACT = f"cut|heal|skew|{ALONE}"
-NET_LINES = (  # what people write of a net, and the line that says it
-    (r"((?!nemesis).*) for (\d\S*)", r"\1 \2"),
-    (r"(?:after|at) (\S+?)[:,]? (.*)", r"at \1 \2"),
-    (r"(?:nodes|hosts|machines|servers|clients):? ([A-Za-z][\w-]*),? (.+)", r"host \1, and the others each in a line of its own"),
-    (r"(?:node|machine|vertex|container|service|server|client) (.+)", r"host \1"),
-    (r"(?:run|exec|command|cmd) ([A-Za-z].+)", r"host \1, in place of the line `host` that it has"),
-    (r"([A-Za-z]\w*) ([A-Za-z]\w*) (\d+(?:ms|[KMG]bit/s).*)", r"link \1 \2 \3"),
-    (r"(?:edge|connect|cable|wire|path) (.+)", r"link \1"),
-    (r"(\w+) ?<?-+>? ?([A-Za-z]\w*)( .*)?", r"link \1 \2\3"),
-    (r"link (\w[\w-]*?) ?(?:<?-+>?|,| and | to ) ?([A-Za-z][\w-]*)( .*)?", r"link \1 \2\3"),
-    (rf"(\d\S*) ((?:{ACT}|partition|disconnect|isolate|link) .*)", r"at \1 \2"),
-    (rf"((?:{ACT}|partition|disconnect|isolate) .*)", r"at 5s \1"),
-    (r"(at \S+) (?:pause|freeze) (.*)", r"\1 stop \2"),
-    (r"(at \S+) (?:resume|continue|unpause) (.*)", r"\1 cont \2"),
-    (r"(at \S+) (?:start|reboot) (.*)", r"\1 restart \2"),
-    (r"(at \S+) (?:reconnect|rejoin|restore) (.*)", r"\1 heal \2"),
-    (rf"at \S+ ((?:{ACT}) .*) at (\d\S*)", r"at \2 \1"),
-    (r"at (\S+) (?:link )?([\w -]*) down", r"at \1 cut \2"),
-    (r"at (\S+) link (.*) up", r"at \1 heal \2"),
-    (r"at (\S+) (?:partition|disconnect|isolate|split) ([\w ,<>|-]*)", r"at \1 cut \2"),
-    (rf"at (\S+) cut {HOST} \| (.*)", r"at \1 cut \2 from \3"),
-    (rf"at (\S+) (cut|heal) {HOST[:-1]}?) ?(?:<?-+>?|,| and | ) ?(?!from |until ){HOST}( \d\S*)?", r"at \1 \2 \3 from \4\5"),
-    (rf"at (\S+) (?:set|change|delay|rate|bandwidth|link) {HOST} {HOST} (\d.*)", r"at \1 \2 \3 \4"),
-    (rf"(at \S+ (?:{ALONE})) {HOST}(?: and |, ?| ){HOST}( \d\S*)?", r"\1 \2\4, and \1 \3\4 in a line of its own"),
-    (rf"at (\S+) loss {HOST} {HOST} (\d.*)", r"at \1 \2 \3 loss \4"),
-    (r"(?:\w+:|[-{[<]).*", "host NAME, and `link A B 20ms`, each in a line of its own, as a net is neither YAML nor JSON"),
-)
-CHANGES = (  # the same of a timeline
-    (r"(?:at|after) (.*)", r"\1"),
-    (r"(\d\S*?)[:,]? (?:link|change|set|to|->|=>) (.*)", r"\1 \2"),
-    (r"(\d\S*?)[:,] (.*)", r"\1 \2"),
-    (r"(\S+) lossy outage (\S+)", r"\1 outage \2 lossy"),
-    (r"(\S+) ((?:up |down )?outage) for (.*)", r"\1 \2 \3"),
-    (r"(\S+) ((?:up |down )?)(?:down|off|cut|disconnect|outage)", r"\1 \2outage 5s lossy"),
-    (r"(\S+) ((?:up |down )?)(?:off|cut|disconnect) (?:for )?(\d\S*)", r"\1 \2outage \3 lossy"),
-)
-FAULTS = (  # the same of a list of faults
-    (r"(?:lose|drop) (.*)", r"\1 lost"),
-    (r"(?!packet)(\w+)(?: ?[-=]?> ?| to | )(?!packet)([A-Za-z]\w*) (?:packet )?(\d.*)", r"\1 > \2 packet \3"),
-    (r"(?:up )?(packet \d.*)", r"client > server \1"),
-    (r"down (packet \d.*)", r"server > client \1"),
-    (r"(.* packet \d+) (?:drop|dropped|lose|loss)", r"\1 lost"),
-    (r"(.* packet \d+) (?:duplicated?|double)", r"\1 twice"),
-    (r"(.* packet \d+) (?:late|delay(?:ed)?)(?: by)? (\d+)(?:ms)?", r"\1 late \2ms"),
-)
 OPEN = ("none", "off", "no", "nothing", "unlimited", "infinite", "perfect", "open", "unshaped")
 NEAR = 0.65  # of a word that may be meant
 SHOWS_NOTHING = Advice("it shows nothing here", "leave this line out")
-
-
-def line_meant(text: str, forms: Sequence[tuple[str, str]] = NET_LINES) -> str:
-    """Returns a line of a net or timeline that means the same, or an empty text."""
-    line = text
-    for pattern, form in forms:
-        match = re.fullmatch(pattern, line)
-        line = match.expand(form) if match else line
-    return line if line != text else ""
 
 
 def words_of(line: str) -> list[str]:

@@ -7,6 +7,7 @@ from typing import Callable, Iterator, NamedTuple, Optional, Union
 
 from hinge.border.files import Budget
 from hinge.captures.random_words import word
+from hinge.events.forms import ENDS
 from hinge.events.kinds import Cut, Event, HostAct, spelled_ns
 from hinge.events.parsed import refuse_act
 from hinge.net.description import Description
@@ -143,18 +144,16 @@ def of_one(act: str) -> Kind:
     return drawn
 
 
+OF_COMMANDS = {f"{act}-one": act for act in ENDS}
 KINDS: dict[str, Kind] = {
     "partition-halves": halves,
     "partition-one": one_apart,
     "partition-ring": ring,
     "partition-majorities": majorities,
     "isolate-one": isolated,
-    "kill-one": of_one("kill"),
-    "crash-one": of_one("crash"),
-    "stop-one": of_one("stop"),
+    **{kind: of_one(act) for kind, act in OF_COMMANDS.items()},
 }
 LEAST = {"partition-halves": 2, "partition-one": 2, "partition-ring": 4, "partition-majorities": 3}  # hosts
-OF_COMMANDS = ("kill-one", "crash-one", "stop-one")
 
 
 def named_hosts(net: Description, statement: Statement, kind: str) -> list[str]:
@@ -165,7 +164,7 @@ def named_hosts(net: Description, statement: Statement, kind: str) -> list[str]:
         while statement.peek():
             items.append((net.room if kind in OF_COMMANDS else net.host)(statement, FORM))
             if kind in OF_COMMANDS:
-                refuse_act(statement, net, kind.removesuffix("-one"), items[-1], True)
+                refuse_act(statement, net, OF_COMMANDS[kind], items[-1], True)
     else:
         items = [
             name

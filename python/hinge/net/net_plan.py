@@ -12,6 +12,7 @@ from typing import Iterator
 from hinge.border.files import MOST_SAID, Budget, untrusted
 from hinge.captures.rule_words import NETS
 from hinge.checks.lines import judged_lines, refuse_long
+from hinge.events.forms import WORDS
 from hinge.events.kinds import Act, Event, HostAct, Moment, NewLine, NewWords, TimedEvent, fault_ends, kept
 from hinge.events.parsed import read_event
 from hinge.net.description import Description
@@ -28,7 +29,6 @@ LOSS, LINE, MAP = "loss A B [N] MODEL", "line A B [N] LINE", "map A B [N] RULE"
 FAULTS, TRACE, AT = "faults FILE", "trace A B [N] FILE", "at TIME EVENT"
 BACK = {"up": "down", "down": "up"}
 BASES = ("start", "main")
-NOTHING = {"heal": "no cut of such a link", "cont": "no stop of such a host"}  # of words that end others
 TRACE_LASTING = 3600 * 10**9  # ns
 
 
@@ -194,8 +194,8 @@ class NetPlan:
         """Wrong: a heal ends no cut that goes on then, or a cont no stop."""
         ends = {end for _, end in fault_ends(self.events)}
         for place, (one, statement) in enumerate(zip(self.events, self.lines_at)):
-            if one.event.word in NOTHING and place not in ends:
-                raise Wrong(f"{statement.place}: {one.event.word!r}: {NOTHING[one.event.word]} goes on then")
+            if place not in ends and (word := WORDS.get(one.event.word)) and word.lacking:
+                raise Wrong(f"{statement.place}: {one.event.word!r}: {word.lacking} goes on then")
 
     def judge(self) -> None:
         """Lets the emulator check all lines in order before anything starts. Unobeyed: it rejects a line."""

@@ -5,6 +5,7 @@ from __future__ import annotations
 import os
 from typing import Mapping, NamedTuple, Optional
 
+from hinge.events.forms import ACTS
 from hinge.events.kinds import Act, Cut, Heal
 from hinge.net.acts import line_of
 from hinge.net.clocks import IN_REAL_TIME
@@ -18,7 +19,6 @@ from hinge.run.processes import Mask
 from hinge.run.settings import NetOptions
 from hinge.run.words import Wrong, duration
 
-BY_LINKS = ("stop", "cont", "kill")  # the acts that are a write each, on hosts with cgroups
 Linked = Mapping[str, "list[int]"]  # the descriptors of a host's cgroup, whose acts are the links'
 
 
@@ -66,7 +66,7 @@ class LinksPlan:
         )
 
     def is_of_links(self, act: Act) -> bool:
-        return act.host in self.linked and act.word in BY_LINKS
+        return act.host in self.linked and ACTS[act.word].is_write
 
     def act_lines(self) -> list[str]:
         """Returns the hosts and their acts that the links carry out, in the file's order, after all events of links."""

@@ -8,8 +8,8 @@ from sys import intern
 from typing import Iterable, Iterator, Sequence
 
 from hinge.command import CONFIGURATION
+from hinge.events.forms import line_meant
 from hinge.run.words import LONGEST, Wrong, bare, first_word, length_of, placed, read_lines
-from hingetulip_words.advice import line_meant
 from hingetulip_words.presets import preset
 
 

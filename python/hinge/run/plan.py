@@ -18,6 +18,7 @@ from typing import TYPE_CHECKING, Iterable, Iterator, Optional, Sequence
 
 from hinge.arguments import is_number
 from hinge.border.files import untrusted
+from hinge.events.forms import CHANGES, line_meant
 from hinge.run.changes import Bandwidths, Change, Changes, Happening, Outage, refuse_second
 from hinge.run.options import MOST
 from hinge.run.traces import MAHIMAHI_BYTES, MOST_BINS, MS, Moments, counted, read_trace, spelled
@@ -38,7 +39,6 @@ from hinge.run.words import (
     target_of,
     with_bandwidth,
 )
-from hingetulip_words.advice import CHANGES, line_meant
 from hingetulip_words.link import Extra, Link, Place, WordError, refusal
 
 if TYPE_CHECKING:

@@ -10,7 +10,7 @@ from typing import Callable, Iterator, NamedTuple, Optional
 from hinge.arguments import is_number
 from hinge.border.files import MOST_LINES, MOST_SAID, lines_in
 from hinge.command import USAGE, Fault
-from hingetulip_words.advice import CHANGES, line_meant
+from hinge.events.forms import CHANGES, line_meant
 from hingetulip_words.link import Extra, Link, Place, WordError, corrected, read_words
 
 WAYS = {"up": 0, "down": 1}
