@@ -35,6 +35,7 @@ from hinge.run.rooms import start, this_network
 from hinge.run.system import enter, is_simulated, try_to_write
 from hinge.run.users import make_terminals
 from hinge.run.verdict import Waits
+from hinge.run.words import Wrong
 
 WATCHED = {signal.SIGCHLD, signal.SIGTERM, signal.SIGHUP}
 LISTEN_POLL = 0.01  # s
@@ -91,17 +92,16 @@ class NetInside:
         return self.linked[host].has_nothing() if host in self.linked else not self.on_host(host).all()
 
     def act(self, act: Act) -> Callable[[], None]:
-        """Carries out an act on a host's processes or clock, except the links' part. Returns the remaining work, which may wait."""
-        if act.word == "skew":
-            set_clock(clock_number(act.host, self.net.hosts), act.more)
-        elif self.is_of_links(act):
-            rest: Callable[[], None] = partial(self.see_gone, act.host)
-            return rest if act.word == "kill" else nothing
-        elif act.host in self.linked:
-            self.linked[act.host].empty()
-        else:
-            on_host = self.on_host(act.host)
-            {"stop": on_host.stop, "cont": on_host.cont}.get(act.word, on_host.kill)()
+        """Carries out an act on a host's processes or clock, except the links' part. Returns the remaining work, which may wait.
+        Wrong: hosts know no such act."""
+        if self.is_of_links(act):
+            return (lambda: self.see_gone(act.host)) if act.word == "kill" else nothing
+        clock, on_host, linked = clock_number(act.host, self.net.hosts), self.on_host(act.host), self.linked.get(act.host)
+        works = dict.fromkeys(("kill", "crash", "restart"), linked.empty if linked else on_host.kill)
+        works |= {"stop": on_host.stop, "cont": on_host.cont, "skew": partial(set_clock, clock, act.more)}
+        if act.word not in works:
+            raise Wrong(f"{act.word}: no act on a host")
+        works[act.word]()
         self.processes.reap()
         if act.word == "crash":
             self.disks.ask("lose", act.host)
