@@ -2,6 +2,8 @@
 
 from __future__ import annotations
 
+from hingetulip_words.values import EXTRAS
+
 # Options that people try with `hinge run`, beside those of a link, and what to write, where {0} is the option's value.
 TABLE = """
 --trace = --up-trace {0} --down-trace {0}
@@ -32,5 +34,5 @@ TABLE = """
 """
 ROWS = [row.split(" = ", 1) for row in TABLE.strip().splitlines()]
 OPTIONS = {option: (form, "{" in form) for options, form in ROWS for option in options.split()}
-OF_LINK = """--rate --bandwidth --bw --speed --delay --latency --rtt --jitter --plr --packet-loss --drop --queue --target-bw
---duplicate --corrupt""".split()
+OF_LINK = "--rate --bandwidth --bw --speed --delay --latency --rtt --plr --packet-loss --drop --queue --target-bw".split()
+OF_LINK += [f"--{word}" for word in EXTRAS]

@@ -7,11 +7,12 @@ import re
 from fractions import Fraction
 from typing import Mapping, Optional, Sequence, Union
 
-from hingetulip_words.values import SCALE, SHARES, TIMES, plain, scaled
+from hingetulip_words.values import EXTRAS, SCALE, SHARES, TIMES, plain, scaled
 
 # Tools, each with the way that it slows, and its words, which stand before `=` and their values in their order: PROPERTY:UNIT, `!NAME`
 # for one that no link has, a lone `!` for all values of a word that none has, `-` for one of no concern; `>WAY` turns to another way.
-TABLE = """
+EXTRA_WORDS = "; ".join(f"{word} = {word}:{example.lstrip('0123456789')}" for word, example in EXTRAS.items())
+TABLE = f"""
 netem up; delay latency = delay:us spread:us !correlation; loss drop random = loss:% !correlation; gemodel = model:%; seed = -;
  rate = bw:tc !overhead !cellsize !celloverhead; duplicate = duplicate:% !correlation; limit = queue:packets;
  corrupt = corrupt:% !correlation; reorder gap slot ecn distribution state = !
@@ -32,8 +33,8 @@ wondershaper both; a = -; d = >down bw:kbit; u = >up bw:kbit
 tcset up; rate = bw:bits; delay = delay:ms; delay-distro = spread:ms; loss = loss:%; duplicate = duplicate:%; incoming = >down;
  corrupt = corrupt:%; direction outgoing add change overwrite = ; reordering network port src-network src-port exclude-dst-network = !value
 mn both; bw = bw:mbit; delay = delay:us; jitter = spread:us; loss = loss:%; max_queue_size = queue:packets; link tc = ; use_htb = -
-ours both; rate bandwidth bw speed = bw:bits; delay latency = delay:ms; rtt = rtt:ms; jitter = jitter:ms; plr = loss:part;
- loss packet-loss drop = loss:%; limit queue = queue:packets; target-bw = bw:kbit; duplicate = duplicate:%; corrupt = corrupt:%
+ours both; rate bandwidth bw speed = bw:bits; delay latency = delay:ms; rtt = rtt:ms; plr = loss:part; {EXTRA_WORDS};
+ loss packet-loss drop = loss:%; limit queue = queue:packets; target-bw = bw:kbit
 """  # ours: what people try as options of `hinge run`
 WAYS, WORDS = dict[str, str](), dict[str, dict[str, list[str]]]()
 for row in TABLE.replace("\n ", " ").strip().splitlines():

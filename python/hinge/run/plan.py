@@ -40,6 +40,7 @@ from hinge.run.words import (
     with_bandwidth,
 )
 from hingetulip_words.link import Extra, Link, Place, WordError, refusal
+from hingetulip_words.values import SHARES
 
 if TYPE_CHECKING:
     from hinge.events.kinds import Event, NewWords, TimedEvent
@@ -255,8 +256,7 @@ class Plan:
         items = []
         for way, (extra, pipes) in self.extras.items():
             items += [f"jitter {way} {pipes[0]} {max(1, extra.pipes)} {seed}"] if pipes else []
-            items += [f"copies {way} {extra.duplicate} {seed}"] if extra.duplicate else []
-            items += [f"corruption {way} {extra.corrupt} {seed}"] if extra.corrupt else []
+            items += [f"{word} {way} {chance} {seed}" for word in SHARES if (chance := getattr(extra, word))]
         return items
 
     def link(self, line: str, link: int = 0) -> None:
