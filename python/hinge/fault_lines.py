@@ -27,7 +27,7 @@ LINE = re.compile(r"(?P<link>\S.* > .*\S) packet (?P<packet>[1-9]\d{0,17}) (?:(?
 TIME = r"\d{1,9}(?:\.\d{1,9})?(?:ms|s)"
 ACT = re.compile(rf"at (?P<moment>{TIME}) (?P<kind>{'|'.join(ACTS)}) (?P<of>\S(?:.*\S)?) (?P<sign>[+-]?)(?P<length>{TIME})")
 LATEST = 3_600_000  # ms that a pipe can delay
-FAULTS = (  # what people write, and the line that says it
+FAULT_ADVICE = (  # what people write, and the line that says it
     (r"(?:lose|drop) (.*)", r"\1 lost"),
     (r"(?!packet)(\w+)(?: ?[-=]?> ?| to | )(?!packet)([A-Za-z]\w*) (?:packet )?(\d.*)", r"\1 > \2 packet \3"),
     (r"(?:up )?(packet \d.*)", r"client > server \1"),
@@ -93,7 +93,7 @@ def read_fault(line: str) -> Either:
     if match is None and line.startswith("at "):
         return read_act(line)
     if match is None or int(match["ms"] or 0) > LATEST:
-        meant = line_meant(line, FAULTS)
+        meant = line_meant(line, FAULT_ADVICE)
         raise ValueError(f"{line!r}: {f'not a fault; write {meant}' if LINE.fullmatch(meant) else NO_FAULT}")
     return Fault(match["link"], int(match["packet"]), match["kind"] or IS_LATE, int(match["ms"] or 0))
 

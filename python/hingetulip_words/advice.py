@@ -6,9 +6,9 @@ import re
 from typing import Sequence
 
 from hingetulip_words.values import EXAMPLES, EXTRAS, FACTOR, FIELD_BITS, FORMS, PER_SECOND
-from hingetulip_words.values import Advice, fault_of, mask, mask_bits, wrong_form
+from hingetulip_words.values import Advice, value_fault, mask_advice, mask_bits, wrong_form
 
-OPTIONS = {
+OPTIONS_OF = {
     "pipe": ["bw", "delay", "queue", "plr", "buckets", "mask"],
     "queue": ["pipe", "weight", "queue", "plr", "buckets", "mask"],
 }
@@ -25,12 +25,12 @@ NEAR = 0.65  # of a word that may be meant
 SHOWS_NOTHING = Advice("it shows nothing here", "leave this line out")
 
 
-def words_of(line: str) -> list[str]:
+def words_before_comment(line: str) -> list[str]:
     """Returns the words of a line before its comment."""
     return re.findall(r"[^ \t\r]+", line.split("#", 1)[0])
 
 
-def first_word(text: str) -> Advice:
+def first_word_advice(text: str) -> Advice:
     """Returns advice on a word in the place of `pipe` or `queue`."""
     if text.lower() in ("pipe", "queue"):
         return Advice("keywords are lower case", f"write {text.lower()}", text.lower())
@@ -81,7 +81,7 @@ def left_out(before: str, text: str) -> Advice:
     if before == "bw":
         return Advice("the name of a device, which this program doesn't have", FORMS["bw"])
     if text.startswith("/"):
-        return mask(before, text)
+        return mask_advice(before, text)
     if text in ("src-ip6", "dst-ip6", "flow-id"):
         return Advice("IPv6 is left out", "write src-ip, dst-ip, src-port, dst-port or proto")
     return Advice("ipfw(8) has it, and this program leaves it out", "leave it and its values out")
@@ -89,7 +89,7 @@ def left_out(before: str, text: str) -> Advice:
 
 def option_word(kind: str, before: str, text: str, more: Sequence[str] = ()) -> Advice:
     """Returns advice on a word in the place of an option; `more` lists further words with values."""
-    options, other = OPTIONS.get(kind, []), "queue" if kind == "pipe" else "pipe"
+    options, other = OPTIONS_OF.get(kind, []), "queue" if kind == "pipe" else "pipe"
     takes = f"a {kind} takes {', '.join(options)}"
     if "jitter" in more:
         takes = f"write {', '.join(EXAMPLES[:-1])} or {EXAMPLES[-1]}"
@@ -107,7 +107,7 @@ def option_word(kind: str, before: str, text: str, more: Sequence[str] = ()) -> 
         )
     if re.fullmatch(UNIT, text) and before.isdigit():
         return Advice("a number and its unit are one word", f"write {before}{text}")
-    if text in OPTIONS[other]:
+    if text in OPTIONS_OF[other]:
         return Advice(f"an option of {other}s, and this line is of a {kind}", f"write it in the line of the {other}; {takes}")
     if text.lower() in options:
         return Advice("keywords are lower case", f"write {text.lower()}", text.lower())
@@ -138,7 +138,7 @@ def advice(words: list[str], number: int, cause: str) -> Advice:
     if at >= 2 and "delete" in words[start + 1 : start + 3]:
         return Advice("nothing stands behind a delete", "delete each in a line of its own")
     if at == 0:
-        return first_word(text)
+        return first_word_advice(text)
     if at == 1:
         return number_word(kind, text)
     if at == 2:
@@ -146,5 +146,5 @@ def advice(words: list[str], number: int, cause: str) -> Advice:
     if cause == "left out":
         return left_out(before, text)
     if cause in ("bad number", "out of range"):
-        return fault_of(before, text) or wrong_form(before, text)
+        return value_fault(before, text) or wrong_form(before, text)
     return option_word(kind, before, text)

@@ -18,7 +18,7 @@ class Word(NamedTuple):
     is_simulated: bool = False  # of simulated time alone
 
 
-OF_LINKS = {
+LINK_WORDS = {
     "cut": Word("cut A [from B ..] [up|down] [tcp|udp port N] [LENGTH]", "its links lose all; `up`: what it sends", "heal"),
     "heal": Word(
         "heal A [from B ..] [up|down] [tcp|udp port N]", "no cut or lossy outage goes on", lacking="no cut of such a link"
@@ -32,7 +32,7 @@ ACTS = {
     "cont": Word("cont HOST", "it goes on", lacking="no stop of such a host", is_write=True),
     "skew": Word("skew HOST +2s [100ppm]", "its clock, in simulated time", is_simulated=True),
 }
-WORDS = OF_LINKS | ACTS
+WORDS = LINK_WORDS | ACTS
 ENDS = {name: word.ending for name, word in ACTS.items() if word.ending}
 OUTAGE = "[up|down] outage LENGTH [lossy [tcp|udp port N]]"
 PROTOCOLS = {"tcp": 6, "udp": 17}  # by whose ports a cut chooses packets

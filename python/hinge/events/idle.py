@@ -9,7 +9,7 @@ from collections import defaultdict
 from typing import Container, NamedTuple, Sequence, Tuple, Union
 
 from hinge.events.forms import ACTS, ENDS
-from hinge.events.kinds import Ends, HoldingOutage, TimedEvent
+from hinge.events.kinds import FaultEnds, HoldingOutage, TimedEvent
 from hinge.run.words import LAST_MOMENT
 
 Key = Tuple[bool, str, Union[int, str]]  # the base, and the kind of a fault of a way or a host
@@ -68,7 +68,7 @@ class NetFaults:
     """A net's effective faults, for each way and host."""
 
     def __init__(self, events: Sequence[TimedEvent], places: Sequence[int], idle: Container[int]) -> None:
-        self.events, self.ends, self.courses = events, Ends(events), defaultdict[Key, FaultCourse](FaultCourse)
+        self.events, self.ends, self.courses = events, FaultEnds(events), defaultdict[Key, FaultCourse](FaultCourse)
         for place in places:
             if place not in idle and fault_kind(events[place]):
                 for one in events[place].event.of:

@@ -15,8 +15,8 @@ from hinge.border.files import opened_log
 from hinge.border.terminal import silence
 from hinge.border.programs import can_be_read
 from hinge.command import say
-from hinge.events.kinds import Act
-from hinge.net.acts import Acts, GroupProcesses, HostProcesses, line_of, sees_own_processes
+from hinge.events.kinds import PlannedAct
+from hinge.net.acts import Acts, GroupProcesses, HostProcesses, act_line, sees_own_processes
 from hinge.run.cgroups import OF_LINKS, Cgroups
 from hinge.net.clocks import clock_number, set_clock, take_clock
 from hinge.net.description import Wait
@@ -91,7 +91,7 @@ class NetInside:
         """Returns whether no process runs on a host."""
         return self.linked[host].has_nothing() if host in self.linked else not self.on_host(host).all()
 
-    def act(self, act: Act) -> Callable[[], None]:
+    def act(self, act: PlannedAct) -> Callable[[], None]:
         """Carries out an act on a host's processes or clock, except the links' part. Returns the remaining work, which may wait.
         Wrong: hosts know no such act."""
         if self.is_of_links(act):
@@ -291,8 +291,8 @@ class NetInside:
         if names := list(self.acts.stopped()):
             self.lines.ask("line remark ending")
         for name in names:
-            act = Act(self.order.made.moment("0s"), "cont", name)
-            self.lines.ask(f"line {line_of(act)}") if self.is_of_links(act) else self.act(act)
+            act = PlannedAct(self.order.made.moment("0s"), "cont", name)
+            self.lines.ask(f"line {act_line(act)}") if self.is_of_links(act) else self.act(act)
         endings = self.processes.endings(self.started, self.begun, self.order.end_wait)
         self.cgroups.remove()
         victims = [name for name, one in endings.items() if one.by == "itself" and self.was_killed(name)]

@@ -13,7 +13,7 @@ from hinge.run.words import LONGEST, Wrong, bare, first_word, length_of, placed,
 from hingetulip_words.presets import preset
 
 
-NO_HOST = "no host of this net"
+UNKNOWN_HOST = "no host of this net"
 
 
 class Unobeyed(Wrong):

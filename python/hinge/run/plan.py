@@ -39,7 +39,7 @@ from hinge.run.words import (
     target_of,
     with_bandwidth,
 )
-from hingetulip_words.link import Extra, Link, Place, WordError, refusal
+from hingetulip_words.link import Extra, LinkWords, Place, WordError, refusal_of_change
 from hingetulip_words.values import SHARES
 
 if TYPE_CHECKING:
@@ -95,12 +95,12 @@ class Plan:
         self.last_free = LAST_PIPE
         self.has_moments = self.has_bins = False  # of mahimahi's traces, and whether they are counted over bins
 
-    def words(self, way: int, link: Link) -> None:
+    def words(self, way: int, link: LinkWords) -> None:
         """Reads the properties in a way's first words that its line can't express."""
         self.lose(way, link)
         self.extra(way, link.extra)
 
-    def lose(self, way: int, link: Link) -> None:
+    def lose(self, way: int, link: LinkWords) -> None:
         """Notes a loss in the words of a way. Wrong: rules send packets of the way to a queue with a line without `plr`."""
         loss = link.options.get("plr", "0")
         if float(loss):
@@ -114,11 +114,11 @@ class Plan:
         except WordError:
             return {}
 
-    def refuse_left_out(self, way: int, words: Link, event: NewWords) -> None:
+    def refuse_left_out(self, way: int, words: LinkWords, event: NewWords) -> None:
         """Wrong: a change leaves out an option that the link has at its beginning."""
         is_alike = len({str(self.begun(way)) for way in event.ways}) == 1
         side = event.side or ("" if is_alike else ("up", "down")[event.ways.index(way)])
-        if why := refusal(self.begun(way), words.options, " ".join(filter(None, (event.ends, side, "{}")))):
+        if why := refusal_of_change(self.begun(way), words.options, " ".join(filter(None, (event.ends, side, "{}")))):
             raise Wrong(f"'{event.words}': {why}")
 
     def take(self, line: str) -> None:

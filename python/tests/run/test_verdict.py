@@ -11,7 +11,7 @@ from linked import needs_rooms, run
 
 from hinge.events.forms import WORDS
 from hinge.events.idle import idle_events
-from hinge.events.kinds import Act, Moment
+from hinge.events.kinds import PlannedAct, Moment
 from hinge.net.acts import Done
 from hinge.net.description import read_description
 from hinge.net.net_plan import NetPlan
@@ -26,7 +26,7 @@ MS = 10**6
 
 def done(word: str, asked: int, late: float, of_main: bool = True) -> Done:
     """Returns an act that was due this many ms after the main command's start at 1 s."""
-    return Done(round((asked + late + 1000 * of_main) * MS), Act(Moment(asked * MS, of_main, ""), word, "a"))
+    return Done(round((asked + late + 1000 * of_main) * MS), PlannedAct(Moment(asked * MS, of_main, ""), word, "a"))
 
 
 def ran(*came: int) -> Counts:
