@@ -7,7 +7,7 @@ import re
 from fractions import Fraction
 from typing import Mapping, Optional, Sequence, Union
 
-from hingetulip_words.values import EXTRAS, SCALE, SHARES, TIMES, plain_number, scaled
+from hingetulip_words.values import EXTRAS, MORE_SCALES, SHARES, TIMES, plain_number, scaled
 
 # Tools, each with the way that it slows, and its words, which stand before `=` and their values in their order: PROPERTY:UNIT, `!NAME`
 # for one that no link has, a lone `!` for all values of a word that none has, `-` for one of no concern; `>WAY` turns to another way.
@@ -48,7 +48,7 @@ for row in TABLE.replace("\n ", " ").strip().splitlines():
 LISTS, WRAPPERS, STRICT = ("toxiproxy", "mn"), ("mahimahi", "trickle"), ("netem", "tbf", "htb", "cake")
 
 NUMBER = r"(?a)(\d{0,99}\.?\d{1,99})([a-z%/]*)"  # of few digits, as Python refuses thousands
-SCALES = SCALE | {"t": 10**12, "ki": 2**10, "mi": 2**20, "gi": 2**30}
+SCALES = MORE_SCALES | {"ki": 2**10, "mi": 2**20, "gi": 2**30}
 
 
 def rates(endings: Sequence[str], times: int = 1) -> dict[str, Fraction]:

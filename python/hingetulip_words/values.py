@@ -18,7 +18,10 @@ FORMS = {
 LONGEST_WORD = 200  # letters; no value that is taken has as many
 FIELD_BITS = {"src-ip": 32, "dst-ip": 32, "src-port": 16, "dst-port": 16, "proto": 8}
 # Patterns that wrong words alone need are texts, which no start compiles.
-BANDWIDTH = r"(\d+(?:\.\d+)?)([kmgt]?)i?(b|bit|bits|byte|bytes|bps|b/s|bit/sec|bits/sec|bit/s|bits/s|byte/s|bytes/s|byte/sec|)"
+SCALE = {"": 1, "k": 10**3, "m": 10**6, "g": 10**9}
+FACTOR, PER_SECOND = f"[{''.join(SCALE)}]?", "(?:bits?|bytes?)/s"  # of a bandwidth
+MORE_SCALES = SCALE | {"t": 10**12}  # with those that people write
+BANDWIDTH = rf"(\d+(?:\.\d+)?)([{''.join(MORE_SCALES)}]?)i?(b|bit|bits|byte|bytes|bps|b/s|bit/sec|bits/sec|bit/s|bits/s|byte/s|bytes/s|byte/sec|)"
 TIME_UNITS = (
     "ns=1/1000000 us,µs,usec,usecs=1/1000 ms,msec,msecs,milliseconds=1 s,sec,secs,second,seconds=1000 min,minute,minutes=60000"
 )
@@ -26,8 +29,6 @@ TIMES = {name: Fraction(ms) for names, _, ms in (unit.partition("=") for unit in
 DELAY = rf"(-?)(\d+(?:\.\d+)?)({'|'.join(TIMES)})"
 ROOM = r"(\d+)(kib|mb|mbyte|mbytes|m|mib|b|byte|bytes|pkt|pkts|packet|packets|p|slots?|k|kb|kbytes?)"
 MOST_KBYTES = 1024
-SCALE = {"": 1, "k": 10**3, "m": 10**6, "g": 10**9}
-FACTOR, PER_SECOND = f"[{''.join(SCALE)}]?", "(?:bits?|bytes?)/s"  # of a bandwidth
 EXTRAS = {"jitter": "5ms", "duplicate": "1%", "corrupt": "1%"}  # a link's words that dummynet doesn't have, each with an example
 SHARES = tuple(word for word, example in EXTRAS.items() if example.endswith("%"))
 EXAMPLES = ("10Mbit/s", "20ms", "queue 100", "loss 1%", *map(" ".join, EXTRAS.items()))  # of each word of a link
@@ -88,7 +89,7 @@ def bandwidth(text: str) -> Advice:
     if not found:
         return Advice("not a bandwidth", FORMS["bw"])
     is_bytes = "byte" in found[3] or "B" in text[len(found[1]) + len(found[2]) :]
-    value = Fraction(found[1]) * 1000 ** "_kmgt".index(found[2] or "_")
+    value = Fraction(found[1]) * MORE_SCALES[found[2]]
     if not value or value.denominator > 1:
         return Advice("not a bandwidth", FORMS["bw"])
     word = f"{scaled(int(value))}{'Byte/s' if is_bytes else 'bit/s'}"

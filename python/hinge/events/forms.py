@@ -5,6 +5,8 @@ from __future__ import annotations
 import re
 from typing import NamedTuple, Sequence
 
+from hingetulip_words.values import FACTOR, PER_SECOND
+
 
 class Word(NamedTuple):
     """A word of an `at` line and of `hinge change`."""
@@ -44,7 +46,7 @@ NET_LINES = (  # what people write of a net, and the line that says it
     (r"(?:nodes|hosts|machines|servers|clients):? ([A-Za-z][\w-]*),? (.+)", r"host \1, and the others each in a line of its own"),
     (r"(?:node|machine|vertex|container|service|server|client) (.+)", r"host \1"),
     (r"(?:run|exec|command|cmd) ([A-Za-z].+)", r"host \1, in place of the line `host` that it has"),
-    (r"([A-Za-z]\w*) ([A-Za-z]\w*) (\d+(?:ms|[KMG]bit/s).*)", r"link \1 \2 \3"),
+    (rf"([A-Za-z]\w*) ([A-Za-z]\w*) (\d+(?:ms|(?i:{FACTOR}{PER_SECOND})).*)", r"link \1 \2 \3"),
     (r"(?:edge|connect|cable|wire|path) (.+)", r"link \1"),
     (r"(\w+) ?<?-+>? ?([A-Za-z]\w*)( .*)?", r"link \1 \2\3"),
     (r"link (\w[\w-]*?) ?(?:<?-+>?|,| and | to ) ?([A-Za-z][\w-]*)( .*)?", r"link \1 \2\3"),
