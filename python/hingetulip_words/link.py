@@ -32,12 +32,8 @@ NO_WORDS = "no words of a link (example: 10Mbit/s 20ms)"
 MOST_JITTER = 1000  # ms: each has a pipe of its own
 CERTAIN = 2**31
 JITTER = "write jitter 5ms, a whole number from 1ms to 1000ms"
-ENDED = {
-    "bw": "bw 0",
-    "delay": "delay 0",
-    "queue": "queue 50",
-    "plr": "loss 0%",
-}  # how a change says that a link has no such option
+# How a change says that a link has no such option.
+ENDED = {"bw": "bw 0", "delay": "delay 0", "queue": "queue 50", "plr": "loss 0%"}
 MISSING = {"loss": "write loss 1%"} | {word: f"write {word} {example}" for word, example in EXTRAS.items()} | {"jitter": JITTER}
 NAMES = {"bw": "bandwidth", "queue": "queue limit", "plr": "loss rate", "buckets": "number of buckets"}
 

@@ -53,7 +53,7 @@ def read_act(statement: Statement, net: Description) -> Event:
     if word == "skew":
         if not clock_number(host, net.hosts):
             raise statement.wrong(host, f"the first {MOST_CLOCKS} hosts have clocks of their own")
-        skew = read_skew(statement).text()
+        skew = read_skew(statement)
     length = 0 if word == "crash" and not statement.peek() else read_length(statement, form) if word in ENDS else LAST_MOMENT
     statement.done(form)
     if word != "skew":

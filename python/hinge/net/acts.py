@@ -109,13 +109,13 @@ class Acts(Ticker):
         self,
         acts: list[PlannedAct],
         lines: HostLines,
-        do: Callable[[PlannedAct], Callable[[], None]],
+        do: Callable[[PlannedAct], Optional[Callable[[], None]]],
         is_of_links: Callable[[PlannedAct], bool],
         has_nothing: Callable[[str], bool],
         beside: Optional[Ticker] = None,
     ) -> None:
-        """`do` carries out an act, except the links' part, and returns the work that remains after its report. Another thread may
-        tick, too."""
+        """`do` carries out an act, except the links' part, and returns the work that remains after its report, if any. Another thread
+        may tick, too."""
         self.planned, self.lines, self.do_act, self.is_of_links, self.beside = acts, lines, do, is_of_links, beside
         self.has_nothing = has_nothing
         self.pending: list[tuple[float, PlannedAct]] = []  # by the monotonic clock
@@ -170,7 +170,7 @@ class Acts(Ticker):
         rest = self.do_act(act)
         moment, met_nothing = self.told_of(act)
         self.done.append(Done(moment, act, is_idle or may_be_idle and met_nothing))
-        self.rests.append((act.host, rest))
+        self.rests += [(act.host, rest)] if rest else []
         return self.done[-1]
 
     def note_later(self, host: str, moment: int) -> None:

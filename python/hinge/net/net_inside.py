@@ -47,10 +47,6 @@ PRIORITY = 8  # behind the links and the writer of their transcript
 NO_PRIORITY = "the links don't come before other programs, as the system doesn't allow it (as root, or with `ulimit -r 10`)"
 
 
-def nothing() -> None:
-    """Does nothing: a completed act has no remaining work."""
-
-
 class NetInside:
     def __init__(self, order: NetOrder, own_users: bool, outside: Optional[Outside]) -> None:
         self.order, self.options, self.net, self.own_users = order, order.options, order.net, own_users
@@ -91,11 +87,11 @@ class NetInside:
         """Returns whether no process runs on a host."""
         return self.linked[host].has_nothing() if host in self.linked else not self.on_host(host).all()
 
-    def act(self, act: PlannedAct) -> Callable[[], None]:
-        """Carries out an act on a host's processes or clock, except the links' part. Returns the remaining work, which may wait.
-        Wrong: hosts know no such act."""
+    def act(self, act: PlannedAct) -> Optional[Callable[[], None]]:
+        """Carries out an act on a host's processes or clock, except the links' part. Returns the remaining work, if any, which may
+        wait. Wrong: hosts know no such act."""
         if self.is_of_links(act):
-            return (lambda: self.see_gone(act.host)) if act.word == "kill" else nothing
+            return partial(self.see_gone, act.host) if act.word == "kill" else None
         clock, on_host, linked = clock_number(act.host, self.net.hosts), self.on_host(act.host), self.linked.get(act.host)
         works = dict.fromkeys(("kill", "crash", "restart"), linked.empty if linked else on_host.kill)
         works |= {"stop": on_host.stop, "cont": on_host.cont, "skew": partial(set_clock, clock, act.more)}
@@ -105,7 +101,7 @@ class NetInside:
         self.processes.reap()
         if act.word == "crash":
             self.disks.ask("lose", act.host)
-        return self.begun_again(act.host) if act.word == "restart" else nothing
+        return self.begun_again(act.host) if act.word == "restart" else None
 
     def begun_again(self, host: str) -> Callable[[], None]:
         """Starts a host's command again. Returns the wait until the command is on the host, where kills find it. A stopped host's cgroup
