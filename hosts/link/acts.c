@@ -51,19 +51,42 @@ bool add_host(struct acts *acts, const char *rest) {
 
 /* An act as its line has it. */
 struct act {
+    bool (*work)(const struct act *act); /* of its word */
     struct place *place;
     const char *words; /* WORD HOST */
     int len;
     uint64_t number;
 };
 
+static bool put(int descriptor, char digit) { return write(descriptor, &digit, 1) == 1; }
+
+static bool stop(const struct act *act) {
+    struct place *place = act->place;
+    place->stops = grown(place->stops, (place->count + 1) * sizeof *place->stops);
+    place->stops[place->count++] = act->number;
+    return put(place->freeze, '1');
+}
+
+static bool cont(const struct act *act) { return put(act->place->freeze, '0'); }
+
+/* What is killed stands still first, so that none of it sees the end of another. */
+static bool kill_all(const struct act *act) {
+    bool is_done = put(act->place->freeze, '1') && put(act->place->kill, '1');
+    return (act->place->count || cont(act)) && is_done;
+}
+
+static const struct kind {
+    const char *word;
+    bool (*work)(const struct act *act);
+} kinds[] = {{"stop ", stop}, {"cont ", cont}, {"kill ", kill_all}};
+
 /* Reads `act WORD HOST N`; false where it isn't one of a host that is known. */
 static bool read_act(const struct acts *acts, const char *line, struct act *act) {
-    static const char *const words[] = {"stop ", "cont ", "kill "};
     act->words = line + strlen(WORD);
-    for (size_t i = 0; i < sizeof words / sizeof *words; i++) {
-        if (strncmp(act->words, words[i], strlen(words[i])) != 0) continue;
-        const char *name = act->words + strlen(words[i]), *number = name + strcspn(name, " ");
+    for (const struct kind *kind = kinds; kind < kinds + sizeof kinds / sizeof *kinds; kind++) {
+        if (strncmp(act->words, kind->word, strlen(kind->word)) != 0) continue;
+        const char *name = act->words + strlen(kind->word), *number = name + strcspn(name, " ");
+        act->work = kind->work;
         act->len = (int)(number - act->words);
         act->place = named(acts, name, (size_t)(number - name));
         number += *number == ' ';
@@ -80,11 +103,6 @@ const char *wrong_with_change(struct host *host, const char *line) {
     return read_act(host->acts, line, &act) ? NULL : "no line";
 }
 
-static void begin_stop(struct place *place, uint64_t number) {
-    place->stops = grown(place->stops, (place->count + 1) * sizeof *place->stops);
-    place->stops[place->count++] = number;
-}
-
 /* Whether nothing stops the host any more, where a stop that went on, or all of them, end. */
 static bool ends_stop(struct place *place, uint64_t number) {
     size_t before = place->count;
@@ -94,8 +112,6 @@ static bool ends_stop(struct place *place, uint64_t number) {
     return number == 0 || (place->count == 0 && before > 0);
 }
 
-static bool put(int descriptor, char digit) { return write(descriptor, &digit, 1) == 1; }
-
 static bool is_empty(const struct place *place) {
     char text[256];
     ssize_t len = pread(place->events, text, sizeof text - 1, 0);
@@ -103,22 +119,13 @@ static bool is_empty(const struct place *place) {
     return strstr(text, "populated 0") != NULL;
 }
 
-/* What is killed stands still first, so that none of it sees the end of another. */
-static bool do_act(const struct act *act) {
-    struct place *place = act->place;
-    if (*act->words == 's') begin_stop(place, act->number);
-    if (*act->words != 'k') return put(place->freeze, *act->words == 's' ? '1' : '0');
-    bool is_done = put(place->freeze, '1') && put(place->kill, '1');
-    return (place->count || put(place->freeze, '0')) && is_done;
-}
-
 const char *make_change(struct host *host, const char *line, uint64_t due) {
     struct act act;
     if (!is_act(line)) return follow(host->cuts, line);
     if (!read_act(host->acts, line, &act)) return "no line";
-    if (*act.words == 'c' && !ends_stop(act.place, act.number)) return NULL;
-    struct done done = {.met_nothing = *act.words != 'c' && is_empty(act.place)};
-    const char *wrong = do_act(&act) ? NULL : strerror(errno);
+    if (act.work == cont && !ends_stop(act.place, act.number)) return NULL;
+    struct done done = {.met_nothing = act.work != cont && is_empty(act.place)};
+    const char *wrong = act.work(&act) ? NULL : strerror(errno);
     done.moment = present(&host->clock);
     act.place->done = grown(act.place->done, (act.place->done_count + 1) * sizeof done);
     act.place->done[act.place->done_count++] = done;

@@ -174,7 +174,7 @@ static bool read_jitter(struct host *host, const char *rest) {
     return true;
 }
 
-/* copies WAY CHANCE SEED: the chance that a packet enters twice; corruption WAY CHANCE SEED: that it leaves with a flipped bit. */
+/* duplicate WAY CHANCE SEED: the chance that a packet enters twice; corrupt WAY CHANCE SEED: that it leaves with a flipped bit. */
 static bool read_chance(struct host *host, const char *rest, void (*set)(struct passes *passes, int way, uint32_t chance, uint64_t seed)) {
     int way;
     uint32_t chance;
@@ -249,8 +249,8 @@ static bool read_one(struct host *host, const char *line) {
         {"map ", read_map},               {"seed ", read_seed},     {"gilbert ", read_gilbert},   {"list ", read_list},
         {"realtime", read_realtime},      {"epoch ", read_epoch},   {"remark ", read_remark},     {"contents", read_contents},
         {"hold ", read_hold},             {"slots ", read_slots},   {"control ", read_control},   {"jitter ", read_jitter},
-        {"copies ", read_copies},         {"main ", read_main},     {"simulated", read_simulated}, {"switch ", read_switch},
-        {"fault ", read_fault},           {"host ", read_host},     {"corruption ", read_corruption},
+        {"duplicate ", read_copies},      {"main ", read_main},     {"simulated", read_simulated}, {"switch ", read_switch},
+        {"fault ", read_fault},           {"host ", read_host},     {"corrupt ", read_corruption},
     };
     /* clang-format on */
     for (size_t i = 0; i < sizeof kinds / sizeof *kinds; i++)

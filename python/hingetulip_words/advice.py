@@ -6,9 +6,9 @@ import re
 from typing import Sequence
 
 from hingetulip_words.values import EXAMPLES, EXTRAS, FACTOR, FIELD_BITS, FORMS, PER_SECOND
-from hingetulip_words.values import Advice, fault_of, mask, mask_bits, wrong_form
+from hingetulip_words.values import Advice, value_fault, mask_advice, mask_bits, wrong_form
 
-OPTIONS = {
+OPTIONS_OF = {
     "pipe": ["bw", "delay", "queue", "plr", "buckets", "mask"],
     "queue": ["pipe", "weight", "queue", "plr", "buckets", "mask"],
 }
@@ -20,74 +20,17 @@ OTHER_NAMES = {
     **{"prio": "weight", "netmask": "mask"},
 }
 UNIT = rf"(?i:{FACTOR}{PER_SECOND}|{FACTOR})|ms|KB|Kbytes?"
-ALONE = "kill|stop|cont|restart|crash"
-HOST = r"([A-Za-z][\w-]*)"
-ACT = f"cut|heal|skew|{ALONE}"
-NET_LINES = (  # what people write of a net, and the line that says it
-    (r"((?!nemesis).*) for (\d\S*)", r"\1 \2"),
-    (r"(?:after|at) (\S+?)[:,]? (.*)", r"at \1 \2"),
-    (r"(?:nodes|hosts|machines|servers|clients):? ([A-Za-z][\w-]*),? (.+)", r"host \1, and the others each in a line of its own"),
-    (r"(?:node|machine|vertex|container|service|server|client) (.+)", r"host \1"),
-    (r"(?:run|exec|command|cmd) ([A-Za-z].+)", r"host \1, in place of the line `host` that it has"),
-    (r"([A-Za-z]\w*) ([A-Za-z]\w*) (\d+(?:ms|[KMG]bit/s).*)", r"link \1 \2 \3"),
-    (r"(?:edge|connect|cable|wire|path) (.+)", r"link \1"),
-    (r"(\w+) ?<?-+>? ?([A-Za-z]\w*)( .*)?", r"link \1 \2\3"),
-    (r"link (\w[\w-]*?) ?(?:<?-+>?|,| and | to ) ?([A-Za-z][\w-]*)( .*)?", r"link \1 \2\3"),
-    (rf"(\d\S*) ((?:{ACT}|partition|disconnect|isolate|link) .*)", r"at \1 \2"),
-    (rf"((?:{ACT}|partition|disconnect|isolate) .*)", r"at 5s \1"),
-    (r"(at \S+) (?:pause|freeze) (.*)", r"\1 stop \2"),
-    (r"(at \S+) (?:resume|continue|unpause) (.*)", r"\1 cont \2"),
-    (r"(at \S+) (?:start|reboot) (.*)", r"\1 restart \2"),
-    (r"(at \S+) (?:reconnect|rejoin|restore) (.*)", r"\1 heal \2"),
-    (rf"at \S+ ((?:{ACT}) .*) at (\d\S*)", r"at \2 \1"),
-    (r"at (\S+) (?:link )?([\w -]*) down", r"at \1 cut \2"),
-    (r"at (\S+) link (.*) up", r"at \1 heal \2"),
-    (r"at (\S+) (?:partition|disconnect|isolate|split) ([\w ,<>|-]*)", r"at \1 cut \2"),
-    (rf"at (\S+) cut {HOST} \| (.*)", r"at \1 cut \2 from \3"),
-    (rf"at (\S+) (cut|heal) {HOST[:-1]}?) ?(?:<?-+>?|,| and | ) ?(?!from |until ){HOST}( \d\S*)?", r"at \1 \2 \3 from \4\5"),
-    (rf"at (\S+) (?:set|change|delay|rate|bandwidth|link) {HOST} {HOST} (\d.*)", r"at \1 \2 \3 \4"),
-    (rf"(at \S+ (?:{ALONE})) {HOST}(?: and |, ?| ){HOST}( \d\S*)?", r"\1 \2\4, and \1 \3\4 in a line of its own"),
-    (rf"at (\S+) loss {HOST} {HOST} (\d.*)", r"at \1 \2 \3 loss \4"),
-    (r"(?:\w+:|[-{[<]).*", "host NAME, and `link A B 20ms`, each in a line of its own, as a net is neither YAML nor JSON"),
-)
-CHANGES = (  # the same of a timeline
-    (r"(?:at|after) (.*)", r"\1"),
-    (r"(\d\S*?)[:,]? (?:link|change|set|to|->|=>) (.*)", r"\1 \2"),
-    (r"(\d\S*?)[:,] (.*)", r"\1 \2"),
-    (r"(\S+) lossy outage (\S+)", r"\1 outage \2 lossy"),
-    (r"(\S+) ((?:up |down )?outage) for (.*)", r"\1 \2 \3"),
-    (r"(\S+) ((?:up |down )?)(?:down|off|cut|disconnect|outage)", r"\1 \2outage 5s lossy"),
-    (r"(\S+) ((?:up |down )?)(?:off|cut|disconnect) (?:for )?(\d\S*)", r"\1 \2outage \3 lossy"),
-)
-FAULTS = (  # the same of a list of faults
-    (r"(?:lose|drop) (.*)", r"\1 lost"),
-    (r"(?!packet)(\w+)(?: ?[-=]?> ?| to | )(?!packet)([A-Za-z]\w*) (?:packet )?(\d.*)", r"\1 > \2 packet \3"),
-    (r"(?:up )?(packet \d.*)", r"client > server \1"),
-    (r"down (packet \d.*)", r"server > client \1"),
-    (r"(.* packet \d+) (?:drop|dropped|lose|loss)", r"\1 lost"),
-    (r"(.* packet \d+) (?:duplicated?|double)", r"\1 twice"),
-    (r"(.* packet \d+) (?:late|delay(?:ed)?)(?: by)? (\d+)(?:ms)?", r"\1 late \2ms"),
-)
 OPEN = ("none", "off", "no", "nothing", "unlimited", "infinite", "perfect", "open", "unshaped")
 NEAR = 0.65  # of a word that may be meant
 SHOWS_NOTHING = Advice("it shows nothing here", "leave this line out")
 
 
-def line_meant(text: str, forms: Sequence[tuple[str, str]] = NET_LINES) -> str:
-    """Returns a line of a net or timeline that means the same, or an empty text."""
-    line = text
-    for pattern, form in forms:
-        match = re.fullmatch(pattern, line)
-        line = match.expand(form) if match else line
-    return line if line != text else ""
-
-
-def words_of(line: str) -> list[str]:
+def words_before_comment(line: str) -> list[str]:
     """Returns the words of a line before its comment."""
     return re.findall(r"[^ \t\r]+", line.split("#", 1)[0])
 
 
-def first_word(text: str) -> Advice:
+def first_word_advice(text: str) -> Advice:
     """Returns advice on a word in the place of `pipe` or `queue`."""
     if text.lower() in ("pipe", "queue"):
         return Advice("keywords are lower case", f"write {text.lower()}", text.lower())
@@ -138,7 +81,7 @@ def left_out(before: str, text: str) -> Advice:
     if before == "bw":
         return Advice("the name of a device, which this program doesn't have", FORMS["bw"])
     if text.startswith("/"):
-        return mask(before, text)
+        return mask_advice(before, text)
     if text in ("src-ip6", "dst-ip6", "flow-id"):
         return Advice("IPv6 is left out", "write src-ip, dst-ip, src-port, dst-port or proto")
     return Advice("ipfw(8) has it, and this program leaves it out", "leave it and its values out")
@@ -146,7 +89,7 @@ def left_out(before: str, text: str) -> Advice:
 
 def option_word(kind: str, before: str, text: str, more: Sequence[str] = ()) -> Advice:
     """Returns advice on a word in the place of an option; `more` lists further words with values."""
-    options, other = OPTIONS.get(kind, []), "queue" if kind == "pipe" else "pipe"
+    options, other = OPTIONS_OF.get(kind, []), "queue" if kind == "pipe" else "pipe"
     takes = f"a {kind} takes {', '.join(options)}"
     if "jitter" in more:
         takes = f"write {', '.join(EXAMPLES[:-1])} or {EXAMPLES[-1]}"
@@ -164,7 +107,7 @@ def option_word(kind: str, before: str, text: str, more: Sequence[str] = ()) -> 
         )
     if re.fullmatch(UNIT, text) and before.isdigit():
         return Advice("a number and its unit are one word", f"write {before}{text}")
-    if text in OPTIONS[other]:
+    if text in OPTIONS_OF[other]:
         return Advice(f"an option of {other}s, and this line is of a {kind}", f"write it in the line of the {other}; {takes}")
     if text.lower() in options:
         return Advice("keywords are lower case", f"write {text.lower()}", text.lower())
@@ -195,7 +138,7 @@ def advice(words: list[str], number: int, cause: str) -> Advice:
     if at >= 2 and "delete" in words[start + 1 : start + 3]:
         return Advice("nothing stands behind a delete", "delete each in a line of its own")
     if at == 0:
-        return first_word(text)
+        return first_word_advice(text)
     if at == 1:
         return number_word(kind, text)
     if at == 2:
@@ -203,5 +146,5 @@ def advice(words: list[str], number: int, cause: str) -> Advice:
     if cause == "left out":
         return left_out(before, text)
     if cause in ("bad number", "out of range"):
-        return fault_of(before, text) or wrong_form(before, text)
+        return value_fault(before, text) or wrong_form(before, text)
     return option_word(kind, before, text)

@@ -5,7 +5,7 @@ from __future__ import annotations
 import re
 from typing import Optional
 
-from hingetulip_words.advice import advice, words_of
+from hingetulip_words.advice import advice, words_before_comment
 from hingetulip_words.link import Place, corrected, in_full, read_link
 
 CAUSE = re.compile(r"word (\d+): (.+)")
@@ -14,7 +14,7 @@ NO_TEXT = "not UTF-8: a file of another kind, or of an older encoding"
 
 def explained(line: str, fault: str) -> str:
     """Returns a program's fault such as `word 5: bad number` as `word 5 '1Mbps': not a bandwidth; write 1Mbit/s`."""
-    words, cause = words_of(line), CAUSE.fullmatch(fault)
+    words, cause = words_before_comment(line), CAUSE.fullmatch(fault)
     if not cause or int(cause[1]) > len(words):
         return NO_TEXT if fault == "not UTF-8" else fault
     said = advice(words, int(cause[1]), cause[2])
@@ -23,7 +23,7 @@ def explained(line: str, fault: str) -> str:
 
 def replaced(line: str, fault: str) -> Optional[str]:
     """Returns the line with the advised word in the wrong word's place, or a pipe's line for a link's words; None without either."""
-    words, cause = words_of(line), CAUSE.fullmatch(fault)
+    words, cause = words_before_comment(line), CAUSE.fullmatch(fault)
     if not cause or int(cause[1]) > len(words):
         return None
     place = int(cause[1]) - 1

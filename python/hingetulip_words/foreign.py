@@ -7,11 +7,12 @@ import re
 from fractions import Fraction
 from typing import Mapping, Optional, Sequence, Union
 
-from hingetulip_words.values import SCALE, SHARES, TIMES, plain, scaled
+from hingetulip_words.values import EXTRAS, MORE_SCALES, SHARES, TIMES, plain_number, scaled
 
 # Tools, each with the way that it slows, and its words, which stand before `=` and their values in their order: PROPERTY:UNIT, `!NAME`
 # for one that no link has, a lone `!` for all values of a word that none has, `-` for one of no concern; `>WAY` turns to another way.
-TABLE = """
+EXTRA_WORDS = "; ".join(f"{word} = {word}:{example.lstrip('0123456789')}" for word, example in EXTRAS.items())
+TABLE = f"""
 netem up; delay latency = delay:us spread:us !correlation; loss drop random = loss:% !correlation; gemodel = model:%; seed = -;
  rate = bw:tc !overhead !cellsize !celloverhead; duplicate = duplicate:% !correlation; limit = queue:packets;
  corrupt = corrupt:% !correlation; reorder gap slot ecn distribution state = !
@@ -32,20 +33,22 @@ wondershaper both; a = -; d = >down bw:kbit; u = >up bw:kbit
 tcset up; rate = bw:bits; delay = delay:ms; delay-distro = spread:ms; loss = loss:%; duplicate = duplicate:%; incoming = >down;
  corrupt = corrupt:%; direction outgoing add change overwrite = ; reordering network port src-network src-port exclude-dst-network = !value
 mn both; bw = bw:mbit; delay = delay:us; jitter = spread:us; loss = loss:%; max_queue_size = queue:packets; link tc = ; use_htb = -
-ours both; rate bandwidth bw speed = bw:bits; delay latency = delay:ms; rtt = rtt:ms; jitter = jitter:ms; plr = loss:part;
- loss packet-loss drop = loss:%; limit queue = queue:packets; target-bw = bw:kbit; duplicate = duplicate:%; corrupt = corrupt:%
+ours both; rate bandwidth bw speed = bw:bits; delay latency = delay:ms; rtt = rtt:ms; plr = loss:part; {EXTRA_WORDS};
+ loss packet-loss drop = loss:%; limit queue = queue:packets; target-bw = bw:kbit
 """  # ours: what people try as options of `hinge run`
-WAYS, WORDS = dict[str, str](), dict[str, dict[str, list[str]]]()
+WAYS, TOOL_WORDS = dict[str, str](), dict[str, dict[str, list[str]]]()
 for row in TABLE.replace("\n ", " ").strip().splitlines():
     tool, *entries = row.split(";")
     name, way = tool.split()
     WAYS[name] = way
-    WORDS[name] = {word: kinds.split() for words, _, kinds in (entry.partition("=") for entry in entries) for word in words.split()}
+    TOOL_WORDS[name] = {
+        word: kinds.split() for words, _, kinds in (entry.partition("=") for entry in entries) for word in words.split()
+    }
 # Tools whose words are lists, those that run a command, and those without names of other things.
 LISTS, WRAPPERS, STRICT = ("toxiproxy", "mn"), ("mahimahi", "trickle"), ("netem", "tbf", "htb", "cake")
 
 NUMBER = r"(?a)(\d{0,99}\.?\d{1,99})([a-z%/]*)"  # of few digits, as Python refuses thousands
-SCALES = SCALE | {"t": 10**12, "ki": 2**10, "mi": 2**20, "gi": 2**30}
+SCALES = MORE_SCALES | {"ki": 2**10, "mi": 2**20, "gi": 2**30}
 
 
 def rates(endings: Sequence[str], times: int = 1) -> dict[str, Fraction]:
@@ -53,20 +56,20 @@ def rates(endings: Sequence[str], times: int = 1) -> dict[str, Fraction]:
     return {f"{letter}{ending}": Fraction(scale * times) for letter, scale in SCALES.items() for ending in endings}
 
 
-BITS = rates(("bit", "bps", "bit/s", "bits/s", "b/s", ""))
+BIT_UNITS = rates(("bit", "bps", "bit/s", "bits/s", "b/s", ""))
 SIZES = {"": 1, "b": 1, "k": 1024, "kb": 1024, "m": 1024**2, "mb": 1024**2, "kbit": 128, "mbit": 128 * 1024}
 # What ms, bit/s, bytes or percent a number is, by the unit that is typed; "" where there is none. In tc, `bps` are bytes.
-UNITS: dict[str, Mapping[str, Union[int, Fraction]]] = {
-    "us": {**TIMES, "": Fraction(1, 1000)}, "ms": {**TIMES, "": 1}, "tc": {**BITS, **rates(["bps"], 8)}, "bits": BITS,
-    "kbit": {**BITS, "": 1000}, "mbit": {**BITS, "": 10**6}, "KB": {"": 8000}, "KiB": {"": 8192}, "bytes": SIZES,
+UNIT_SCALES: dict[str, Mapping[str, Union[int, Fraction]]] = {
+    "us": {**TIMES, "": Fraction(1, 1000)}, "ms": {**TIMES, "": 1}, "tc": {**BIT_UNITS, **rates(["bps"], 8)}, "bits": BIT_UNITS,
+    "kbit": {**BIT_UNITS, "": 1000}, "mbit": {**BIT_UNITS, "": 10**6}, "KB": {"": 8000}, "KiB": {"": 8192}, "bytes": SIZES,
     "%": {"%": 1, "": 1}, "part": {"%": 1, "": 100}, "packets": {"": 1},
 }  # fmt: skip
 
 
-def number(text: str, unit: str) -> Optional[Fraction]:
+def quantity(text: str, unit: str) -> Optional[Fraction]:
     """Returns the number in a text in ms, bit/s, bytes or percent; None without a number."""
     found = re.fullmatch(NUMBER, text.lower())
-    scale = UNITS[unit].get(found[2]) if found else None
+    scale = UNIT_SCALES[unit].get(found[2]) if found else None
     scale = scale * 8 if scale and unit == "bits" and re.search("B(/s|ps)$", text) else scale
     return None if found is None or scale is None else Fraction(found[1]) * scale
 
@@ -80,7 +83,7 @@ class Meant:
     """The meaning of another tool's words. No link supports those in `left`; `rest` contains names and the command."""
 
     def __init__(self, tool: str, words: Sequence[str]) -> None:
-        self.tool, self.known, self.rest, self.left = tool, WORDS[tool], list[str](), list[str]()
+        self.tool, self.known, self.rest, self.left = tool, TOOL_WORDS[tool], list[str](), list[str]()
         self.ways: dict[str, dict[str, Fraction]] = {"both": {}, "up": {}, "down": {}}
         self.more, self.model = list[str](), list[Fraction]()  # options beside the link, and the rates of a model of losses
         self.words = [part for word in words for part in self.parts(word)]
@@ -120,7 +123,7 @@ class Meant:
             while self.is_value():
                 self.words.pop(0)
         elif kind[0] in "-!":
-            is_there = self.is_value() and (kind != "!correlation" or number(self.words[0], "%") is not None)
+            is_there = self.is_value() and (kind != "!correlation" or quantity(self.words[0], "%") is not None)
             text = f"{kind[1:]} {self.words.pop(0)}" if is_there else ""
             if kind[0] == "!" and (text or kind == "!value"):
                 self.leave(text.replace("value", word) or word)
@@ -131,14 +134,14 @@ class Meant:
                 self.read()
             self.take_file(name, self.words.pop(0) if self.is_value() else "")
         else:
-            while self.is_value() and (value := number(self.words[0], unit)) is not None:
+            while self.is_value() and (value := quantity(self.words[0], unit)) is not None:
                 self.put(name, value, self.words.pop(0))
                 if name != "model":
                     break
 
     def take_file(self, option: str, text: str) -> None:
         """Reads a direction's trace, where people also write a bandwidth."""
-        rate = None if text.isdigit() else number(text, "bits")
+        rate = None if text.isdigit() else quantity(text, "bits")
         if rate is not None:
             self.ways[option.removesuffix("-trace")]["bw"] = rate
         elif text:
@@ -165,11 +168,11 @@ class Meant:
             link.append(in_units(bw))
             size = bw / 8000 * of["lasting"] if "lasting" in of else size
         if spread > delay:
-            self.leave(f"a jitter of {plain(spread)}ms, which is above the delay")
+            self.leave(f"a jitter of {plain_number(spread)}ms, which is above the delay")
             spread = Fraction(0)
         for name, ms in (("", delay - spread), ("jitter ", of.get("jitter", 2 * spread))):
             if ms.denominator != 1:
-                self.leave(f"{name or 'delay '}{plain(ms)}ms, as a link has whole milliseconds")
+                self.leave(f"{name or 'delay '}{plain_number(ms)}ms, as a link has whole milliseconds")
             elif ms or not name and "delay" in of:
                 link.append(f"{name}{ms}ms")
         if bw is None and self.tool in STRICT and (size or "queue" in of):
@@ -178,7 +181,7 @@ class Meant:
             link.append(f"queue {of['queue']}")
         elif size:
             link.append(f"queue {min(1024, max(1, math.ceil(size / 1024)))}Kbytes")
-        return " ".join([*link, *(f"{name} {plain(of[name])}%" for name in ("loss", *SHARES) if name in of)])
+        return " ".join([*link, *(f"{name} {plain_number(of[name])}%" for name in ("loss", *SHARES) if name in of)])
 
     def options(self) -> list[str]:
         """Returns the options for `hinge run`; only a single way if the tool slows only that way."""
@@ -189,5 +192,5 @@ class Meant:
         if words["--up"] == words["--down"]:
             words = {"--link": words["--up"]}
         link = [part for option, text in words.items() if text for part in (option, text)]
-        rates = ",".join(plain(rate / 100) for rate in self.model[:4])
+        rates = ",".join(plain_number(rate / 100) for rate in self.model[:4])
         return [*link, *self.more, *(["--loss", f"{WAYS[self.tool]}:gilbert:{rates}"] if len(self.model) > 1 else [])]

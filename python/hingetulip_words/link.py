@@ -8,15 +8,15 @@ from enum import Enum
 from fractions import Fraction
 from typing import NamedTuple, Optional, Sequence
 
-from hingetulip_words.advice import OPTIONS, OTHER_NAMES, left_out, missing_value, option_word
+from hingetulip_words.advice import OPTIONS_OF, OTHER_NAMES, left_out, missing_value, option_word
 from hingetulip_words.foreign import Meant
 from hingetulip_words.presets import NEAREST, PRESETS
 from hingetulip_words.values import DELAY as DELAY_WORD
 from hingetulip_words.values import EXTRAS, FACTOR, FIELD_BITS, LONGEST_WORD, PER_SECOND, PERCENT, SHARES, TIMES
-from hingetulip_words.values import Advice, fault_of, plain, wrong_form
+from hingetulip_words.values import Advice, value_fault, plain_number, wrong_form
 
-RATE = re.compile(rf"\d+{FACTOR}{PER_SECOND}", re.ASCII | re.IGNORECASE)
-DELAY = re.compile(r"\d+ms", re.ASCII)
+WHOLE_RATE = re.compile(rf"\d+{FACTOR}{PER_SECOND}", re.ASCII | re.IGNORECASE)
+WHOLE_DELAY = re.compile(r"\d+ms", re.ASCII)
 LIKE_A_DELAY = f"(?ai){DELAY_WORD}"
 LIKE_ROOM = r"(?ai)\d+(pkts?|packets?|p|slots?|[km]?bytes?|kb|kib|mib)"
 AROUND = r"(\d+)ms(?: ?(?:±|\+/?-) ?| )(\d+)ms"  # as netem's `20ms 5ms`
@@ -32,12 +32,8 @@ NO_WORDS = "no words of a link (example: 10Mbit/s 20ms)"
 MOST_JITTER = 1000  # ms: each has a pipe of its own
 CERTAIN = 2**31
 JITTER = "write jitter 5ms, a whole number from 1ms to 1000ms"
-ENDED = {
-    "bw": "bw 0",
-    "delay": "delay 0",
-    "queue": "queue 50",
-    "plr": "loss 0%",
-}  # how a change says that a link has no such option
+# How a change says that a link has no such option.
+ENDED = {"bw": "bw 0", "delay": "delay 0", "queue": "queue 50", "plr": "loss 0%"}
 MISSING = {"loss": "write loss 1%"} | {word: f"write {word} {example}" for word, example in EXTRAS.items()} | {"jitter": JITTER}
 NAMES = {"bw": "bandwidth", "queue": "queue limit", "plr": "loss rate", "buckets": "number of buckets"}
 
@@ -84,7 +80,7 @@ class Extra(NamedTuple):
         return self.jitter + 1 if self.jitter else 0
 
 
-class Link(NamedTuple):
+class LinkWords(NamedTuple):
     """The content of a link's words."""
 
     options: dict[str, str]  # by ipfw's names, in the order in which they were given
@@ -102,16 +98,16 @@ def number_alone(word: str, following: str) -> tuple[str, Advice]:
     if not re.fullmatch(UNIT, following):
         return word, Advice("a number without a unit", f"write {word}ms for a delay, {word}Mbit/s for a bandwidth or queue {word}")
     joined = word + following
-    if not (RATE.fullmatch(joined) or DELAY.fullmatch(joined)):
-        joined = unknown(joined).word or joined
+    if not (WHOLE_RATE.fullmatch(joined) or WHOLE_DELAY.fullmatch(joined)):
+        joined = advice_on_value(joined).word or joined
     return f"{word} {following}", ONE_WORD._replace(right=f"write {joined}")
 
 
-def unknown(word: str) -> Advice:
+def advice_on_value(word: str) -> Advice:
     """Of a word that begins with a digit and is no short form."""
     parts = [part for part in re.split("[,;]|/(?!s|$)", word) if part]
     if len(parts) > 1:
-        is_of_ways = any(all(map(form.fullmatch, parts)) for form in (RATE, DELAY))
+        is_of_ways = any(all(map(form.fullmatch, parts)) for form in (WHOLE_RATE, WHOLE_DELAY))
         return ONE_WAY if is_of_ways else Advice("blanks alone part the words", f"write {' '.join(parts)}")
     if spread := re.fullmatch(AROUND, word):
         return Advice("a jitter adds to the delay", f"write {around(spread)}")
@@ -128,21 +124,21 @@ def unknown(word: str) -> Advice:
     return wrong_form("bw", word)
 
 
-class Words:
+class WordReader:
     """The words of a text, read from left to right into `options` by full name, and `extra`."""
 
     def __init__(self, text: str, kind: str, place: Place) -> None:
-        self.kind, self.place, self.names = kind, place, [name for name in OPTIONS[kind] if name != "pipe"]
+        self.kind, self.place, self.names = kind, place, [name for name in OPTIONS_OF[kind] if name != "pipe"]
         self.rest = text.partition("#")[0].split()
         self.options: dict[str, str] = {}
         self.extra = Extra()
         self.typed: dict[str, str] = {}
         self.before = ""
 
-    def read(self) -> Link:
+    def read(self) -> LinkWords:
         while self.rest:
             self.read_one(self.rest.pop(0))
-        return Link(self.options, self.extra)
+        return LinkWords(self.options, self.extra)
 
     def note(self, name: str, typed: str) -> None:
         """Refuses a second word of a kind."""
@@ -158,7 +154,7 @@ class Words:
 
     def check(self, name: str, text: str, typed: str) -> str:
         """Returns a value of an option if it is correct; `typed` is the user's text for both."""
-        if fault := fault_of(name, text):
+        if fault := value_fault(name, text):
             raise WordError(typed, fault)
         return text
 
@@ -178,9 +174,9 @@ class Words:
         elif word in self.names:
             text = self.value_of(word)
             self.put(word, self.check(word, text, f"{word} {text}"), f"{word} {text}")
-        elif RATE.fullmatch(word) and "bw" in self.names:
+        elif WHOLE_RATE.fullmatch(word) and "bw" in self.names:
             self.put("bw", self.check("bw", word, word), word)
-        elif DELAY.fullmatch(word) and "delay" in self.names:
+        elif WHOLE_DELAY.fullmatch(word) and "delay" in self.names:
             self.put("delay", self.check("delay", word, word), word)
         elif word == "loss":
             text = self.value_of(word)
@@ -200,7 +196,7 @@ class Words:
             raise WordError(typed, Advice("no packet has a checksum here, which would discard it", f"write loss {text}"))
         self.note(word, typed)
         if word == "jitter":
-            if not DELAY.fullmatch(text) or not 1 <= int(text[:-2]) <= MOST_JITTER:
+            if not WHOLE_DELAY.fullmatch(text) or not 1 <= int(text[:-2]) <= MOST_JITTER:
                 raise WordError(typed, Advice("not a jitter", JITTER))
             self.extra = self.extra._replace(jitter=int(text[:-2]))
         else:
@@ -220,7 +216,7 @@ class Words:
         part = Fraction(share[1]) / 100
         if part > 1:
             raise WordError(f"loss {text}", Advice("out of range", "a loss is 0% to 100%"))
-        return plain(part)
+        return plain_number(part)
 
     def fields(self) -> str:
         """Returns the fields of a mask with their values."""
@@ -254,7 +250,7 @@ class Words:
             return self.of_two(word, following)
         is_value = word[:1].isdigit() or re.match(r"[-.]\d", word)
         more = ["loss"] if self.place is Place.DUMMYNET else [*MISSING]
-        return WordError(word, self.one_way(unknown(word)) if is_value else option_word(self.kind, self.before, word, more))
+        return WordError(word, self.one_way(advice_on_value(word)) if is_value else option_word(self.kind, self.before, word, more))
 
     def one_way(self, advice: Advice) -> Advice:
         is_change = advice is ONE_WAY and self.place is Place.CHANGE
@@ -276,7 +272,7 @@ class Words:
                 right = f"write {PRESETS[name].up}" if self.place is Place.CHANGE else right
                 return WordError(typed, Advice("the name of a preset, and no word of a link", right))
         return WordError(
-            word, unknown(word) if word[0].isdigit() else Advice("not an option", f"write jitter {following or '5ms'}")
+            word, advice_on_value(word) if word[0].isdigit() else Advice("not an option", f"write jitter {following or '5ms'}")
         )
 
 
@@ -286,14 +282,14 @@ def around(spread: re.Match[str]) -> str:
     return f"{delay_ms - off}ms jitter {2 * off}ms" if 0 < off < delay_ms else f"{delay_ms}ms"
 
 
-def read_words(text: str, place: Place, kind: str = "pipe") -> Link:
+def read_words(text: str, place: Place, kind: str = "pipe") -> LinkWords:
     """Returns the content of a link's words at a place, for a pipe or a queue.
 
     WordError: a word isn't a link's there, or repeats another.
     """
     if long := next((word for word in text.split() if len(word) > LONGEST_WORD), ""):
         raise WordError(f"{long[:20]} ..", Advice(f"a word of {len(long):,} letters", f"at most {LONGEST_WORD} are taken"))
-    return Words(text, kind, place).read()
+    return WordReader(text, kind, place).read()
 
 
 def read_link(text: str, kind: str = "pipe") -> dict[str, str]:
@@ -333,14 +329,14 @@ def link_before(words: Sequence[str]) -> tuple[str, list[str]]:
     return "", [*words]
 
 
-def refusal(begun: dict[str, str], changed: dict[str, str], place: str = "{}") -> str:
+def refusal_of_change(begun: dict[str, str], changed: dict[str, str], place: str = "{}") -> str:
     """Returns why a change with these options is refused, because the change leaves out an option that the link has at its
     beginning, and the right words; otherwise an empty text. `place` contains the words before those of the link."""
 
     def spelled(options: dict[str, str]) -> str:
         texts = {name: f"{text}ms" if name == "delay" and text.isdigit() else text for name, text in options.items()}
         return " ".join(
-            f"loss {plain(Fraction(text) * 100)}%" if name == "plr" else as_words(name, text) for name, text in texts.items()
+            f"loss {plain_number(Fraction(text) * 100)}%" if name == "plr" else as_words(name, text) for name, text in texts.items()
         )
 
     ended = {name: begun[name] for name in ENDED if name not in changed and re.search("[1-9]", begun.get(name, ""))}
@@ -351,7 +347,7 @@ def refusal(begun: dict[str, str], changed: dict[str, str], place: str = "{}") -
 
 def as_words(name: str, text: str) -> str:
     """Returns an option and its value as a link's words."""
-    if RATE.fullmatch(text) or DELAY.fullmatch(text):
+    if WHOLE_RATE.fullmatch(text) or WHOLE_DELAY.fullmatch(text):
         return text
     return f"{'loss' if PERCENT.fullmatch(text) else name} {text}"
 

@@ -38,10 +38,10 @@ PRESETS = {
     "lan": Preset("1Gbit/s queue 1000", "1Gbit/s queue 1000", "Gigabit Ethernet, whose delay is far below a millisecond"),
 }
 # Other names of links, and the preset that is nearest.
-OTHER_NAMES = """dialup=modem,isdn edge=2g,gprs,gsm 3g=umts,hspa,hsdpa 4g=mobile,cellular,phone lte=5g,nr dsl=adsl,vdsl,broadband
+OTHER_PRESETS = """dialup=modem,isdn edge=2g,gprs,gsm 3g=umts,hspa,hsdpa 4g=mobile,cellular,phone lte=5g,nr dsl=adsl,vdsl,broadband
 cable=docsis,home fibre=ftth,fios,fiber satellite=starlink,leo,sat geo=viasat,geostationary,vsat
 lossy-wifi=wifi,wi-fi,wlan,wireless,lossy bad=train,terrible,poor,worst lan=ethernet,gigabit,wired,datacenter,datacentre,local"""
-NEAREST = {name: own for own, _, names in (entry.partition("=") for entry in OTHER_NAMES.split()) for name in names.split(",")}
+NEAREST = {name: own for own, _, names in (entry.partition("=") for entry in OTHER_PRESETS.split()) for name in names.split(",")}
 
 
 def near(name: str) -> str:
@@ -67,7 +67,7 @@ def either_way(name: str, up: Optional[str] = None, down: Optional[str] = None) 
     return found.up if up is None else up, found.down if down is None else down
 
 
-def table() -> str:
+def preset_table() -> str:
     """All presets, in lines of at most 80 columns."""
     rows = [("preset", "up", "down", ""), *((name, *links) for name, links in PRESETS.items())]
     of_name, of_up = (max(len(row[place]) for row in rows) for place in range(2))

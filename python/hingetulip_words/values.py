@@ -18,14 +18,17 @@ FORMS = {
 LONGEST_WORD = 200  # letters; no value that is taken has as many
 FIELD_BITS = {"src-ip": 32, "dst-ip": 32, "src-port": 16, "dst-port": 16, "proto": 8}
 # Patterns that wrong words alone need are texts, which no start compiles.
-BANDWIDTH = r"(\d+(?:\.\d+)?)([kmgt]?)i?(b|bit|bits|byte|bytes|bps|b/s|bit/sec|bits/sec|bit/s|bits/s|byte/s|bytes/s|byte/sec|)"
-UNITS = "ns=1/1000000 us,µs,usec,usecs=1/1000 ms,msec,msecs,milliseconds=1 s,sec,secs,second,seconds=1000 min,minute,minutes=60000"
-TIMES = {name: Fraction(ms) for names, _, ms in (unit.partition("=") for unit in UNITS.split()) for name in names.split(",")}
+SCALE = {"": 1, "k": 10**3, "m": 10**6, "g": 10**9}
+FACTOR, PER_SECOND = f"[{''.join(SCALE)}]?", "(?:bits?|bytes?)/s"  # of a bandwidth
+MORE_SCALES = SCALE | {"t": 10**12}  # with those that people write
+BANDWIDTH = rf"(\d+(?:\.\d+)?)([{''.join(MORE_SCALES)}]?)i?(b|bit|bits|byte|bytes|bps|b/s|bit/sec|bits/sec|bit/s|bits/s|byte/s|bytes/s|byte/sec|)"
+TIME_UNITS = (
+    "ns=1/1000000 us,µs,usec,usecs=1/1000 ms,msec,msecs,milliseconds=1 s,sec,secs,second,seconds=1000 min,minute,minutes=60000"
+)
+TIMES = {name: Fraction(ms) for names, _, ms in (unit.partition("=") for unit in TIME_UNITS.split()) for name in names.split(",")}
 DELAY = rf"(-?)(\d+(?:\.\d+)?)({'|'.join(TIMES)})"
 ROOM = r"(\d+)(kib|mb|mbyte|mbytes|m|mib|b|byte|bytes|pkt|pkts|packet|packets|p|slots?|k|kb|kbytes?)"
 MOST_KBYTES = 1024
-SCALE = {"": 1, "k": 10**3, "m": 10**6, "g": 10**9}
-FACTOR, PER_SECOND = f"[{''.join(SCALE)}]?", "(?:bits?|bytes?)/s"  # of a bandwidth
 EXTRAS = {"jitter": "5ms", "duplicate": "1%", "corrupt": "1%"}  # a link's words that dummynet doesn't have, each with an example
 SHARES = tuple(word for word, example in EXTRAS.items() if example.endswith("%"))
 EXAMPLES = ("10Mbit/s", "20ms", "queue 100", "loss 1%", *map(" ".join, EXTRAS.items()))  # of each word of a link
@@ -57,8 +60,8 @@ TAKEN = {
     "buckets": Form(re.compile(NUMBER, re.ASCII), 16, 65_536, "buckets are 16 to 65536"),
     "pipe": Form(re.compile(NUMBER, re.ASCII), 1, 65_535, "pipes are 1 to 65535"),
 }
-BITS = re.compile(NUMBER + r"|0[xX][\da-fA-F]+", re.ASCII)
-TAKEN |= {name: Form(BITS, 0, 2**bits - 1, f"a mask of {name} has at most {bits} bits") for name, bits in FIELD_BITS.items()}
+MASK_BITS = re.compile(NUMBER + r"|0[xX][\da-fA-F]+", re.ASCII)
+TAKEN |= {name: Form(MASK_BITS, 0, 2**bits - 1, f"a mask of {name} has at most {bits} bits") for name, bits in FIELD_BITS.items()}
 
 
 class Advice(NamedTuple):
@@ -69,7 +72,7 @@ class Advice(NamedTuple):
     word: Optional[str] = None
 
 
-def plain(value: Fraction) -> str:
+def plain_number(value: Fraction) -> str:
     """Returns a number in its shortest form without an exponent."""
     text = f"{int(value * 10**18):019d}"
     return f"{text[:-18]}.{text[-18:]}".rstrip("0").rstrip(".")
@@ -86,7 +89,7 @@ def bandwidth(text: str) -> Advice:
     if not found:
         return Advice("not a bandwidth", FORMS["bw"])
     is_bytes = "byte" in found[3] or "B" in text[len(found[1]) + len(found[2]) :]
-    value = Fraction(found[1]) * 1000 ** "_kmgt".index(found[2] or "_")
+    value = Fraction(found[1]) * MORE_SCALES[found[2]]
     if not value or value.denominator > 1:
         return Advice("not a bandwidth", FORMS["bw"])
     word = f"{scaled(int(value))}{'Byte/s' if is_bytes else 'bit/s'}"
@@ -131,13 +134,13 @@ def loss(text: str) -> Advice:
     except (ValueError, ZeroDivisionError):
         return Advice("not a loss rate", FORMS["plr"])
     if found:
-        return Advice("a loss rate isn't a percentage", f"write {plain(value)}", plain(value))
+        return Advice("a loss rate isn't a percentage", f"write {plain_number(value)}", plain_number(value))
     if value > 1:
-        rate = plain(value / 100)
+        rate = plain_number(value / 100)
         return Advice("a loss rate is at most 1", f"write {rate} for {text} %", rate if value <= 100 else None)
     if value < 0:
         return Advice("a loss rate can't be negative", FORMS["plr"])
-    return Advice("not a loss rate", f"write {plain(value)}", plain(value))
+    return Advice("not a loss rate", f"write {plain_number(value)}", plain_number(value))
 
 
 def mask_bits(text: str, width: int = 32) -> Optional[str]:
@@ -150,7 +153,7 @@ def mask_bits(text: str, width: int = 32) -> Optional[str]:
     return None
 
 
-def mask(field: str, text: str) -> Advice:
+def mask_advice(field: str, text: str) -> Advice:
     if bits := mask_bits(text, FIELD_BITS.get(field, 32)):
         return Advice("a mask is the bits that tell flows apart, and no netmask", f"write {bits}", bits)
     return Advice("not the bits of a mask", "write them as 0xffffffff")
@@ -159,7 +162,7 @@ def mask(field: str, text: str) -> Advice:
 READERS: dict[str, Callable[[str], Advice]] = {"bw": bandwidth, "delay": delay, "queue": room, "plr": loss}
 
 
-def number_of(option: str, text: str) -> Fraction:
+def value_number(option: str, text: str) -> Fraction:
     """Returns a value's number in the right format, in its range's unit."""
     if option == "plr":
         return Fraction(text.rstrip(".") or "0")
@@ -168,7 +171,7 @@ def number_of(option: str, text: str) -> Fraction:
     return Fraction(int(text, 16) if text[:2].lower() == "0x" else int(re.sub(r"\D", "", text)))
 
 
-def fault_of(option: str, text: str) -> Optional[Advice]:
+def value_fault(option: str, text: str) -> Optional[Advice]:
     """Returns the error in an option's value, or None."""
     bare, form = text.rstrip(",;"), TAKEN.get(option)
     if bare and bare != text:
@@ -185,7 +188,7 @@ def fault_of(option: str, text: str) -> Optional[Advice]:
 def is_in_range(option: str, text: str) -> bool:
     """Returns whether a value in its option's format is one that dummynet takes."""
     most = MOST_KBYTES if option == "queue" and not text.isdigit() else TAKEN[option].most
-    return TAKEN[option].least <= number_of(option, text) <= most
+    return TAKEN[option].least <= value_number(option, text) <= most
 
 
 def wrong_form(option: str, text: str) -> Advice:
@@ -195,4 +198,4 @@ def wrong_form(option: str, text: str) -> Advice:
     if option in READERS:
         said = READERS[option](text)
         return said if said.word is None or is_in_range(option, said.word) else Advice("out of range", TAKEN[option].range)
-    return mask(option, text) if option in FIELD_BITS else Advice("not a number here", FORMS.get(option, "write a number"))
+    return mask_advice(option, text) if option in FIELD_BITS else Advice("not a number here", FORMS.get(option, "write a number"))

@@ -49,10 +49,10 @@ def name_what_is_built() -> None:
 def lacking_kernel() -> str:
     """What keeps the tests of simulated time from being tried, or nothing."""
     from hinge.run.system import Missing
-    from hinge.simulated.kernel import found
+    from hinge.simulated.kernel import usable_kernel
 
     try:
-        found()
+        usable_kernel()
     except Missing as missing:
         return str(missing)
     return ""

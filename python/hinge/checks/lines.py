@@ -15,7 +15,7 @@ from hinge.border.programs import lines_from
 from hinge.border.scratch import unnamed
 from hinge.checks.findings import MOST_FAULTS, Findings
 from hingetulip_words.values import FIELD_BITS
-from hingetulip_words.advice import OPTIONS, words_of
+from hingetulip_words.advice import OPTIONS_OF, words_before_comment
 from hingetulip_words.explained import explained, replaced
 from hinge.command import CONFIGURATION, FILES, MISSING, Fault
 from hinge.configurations.configured import InForce
@@ -69,7 +69,7 @@ def judged_lines(lines: Iterable[Union[bytes, str]]) -> Iterator[Verdict]:
     for number, line in enumerate(map(judged_part, lines), 1):
         if record.startswith(f"#,bad,{number},"):
             yield Verdict(number, "bad", record.split(",", 4)[4], line)
-        elif words_of(line.decode("utf-8", "replace")):
+        elif words_before_comment(line.decode("utf-8", "replace")):
             answer = next(records, "")
             if record[:2] != "c," or answer[:2] != "r,":
                 raise Fault(f"dummynet live says nothing of line {number}", FILES)
@@ -115,15 +115,15 @@ def refuse_wrong(texts: Sequence[str], numbers: Sequence[int], file: str, option
         return
     if first:
         _, _, number, _, why = first.split(",", 4)
-        raise wrong(int(number) - 1, LineCheck.wrong(words_of(texts[int(number) - 1]), why))
+        raise wrong(int(number) - 1, LineCheck.wrong(words_before_comment(texts[int(number) - 1]), why))
     for at, text in enumerate(texts):
-        if name := twice(words_of(text)):
+        if name := twice(words_before_comment(text)):
             raise wrong(at, f"{name} stands twice; write one of them")
 
 
 def twice(words: list[str]) -> str:
     """Returns the first option with two values in a line, or an empty text."""
-    options = OPTIONS.get(words[0] if words else "", ())
+    options = OPTIONS_OF.get(words[0] if words else "", ())
     return next((word for word, count in Counter(words[3:]).items() if count > 1 and word in options), "")
 
 
@@ -149,7 +149,7 @@ class LineCheck:
 
     def one(self, verdict: Verdict) -> None:
         where = f"{self.name}:{verdict.line}"
-        words = words_of(verdict.source.decode("utf-8", "replace"))
+        words = words_before_comment(verdict.source.decode("utf-8", "replace"))
         own = words[words[:1] == ["ipfw"] :]
         if verdict.name == "bad":
             self.found.fault(where, self.wrong(words, verdict.text), CONFIGURATION)
@@ -189,7 +189,7 @@ class LineCheck:
         key = " ".join(words[:2])
         if key in self.last and "config" in words[:3] and "config" in self.last[key][1][:3]:
             line, earlier = self.last[key]
-            losses = [word for word in earlier[3:] if word in OPTIONS[words[0]] and word not in words[3:]]
+            losses = [word for word in earlier[3:] if word in OPTIONS_OF[words[0]] and word not in words[3:]]
             also = f": {', '.join(losses)} of line {line} no longer hold{'s' * (len(losses) == 1)}" if losses else ""
             self.found.warn(where, f"a second line for {key}, and each line is its whole configuration{also}")
         if option := twice(words):

@@ -7,10 +7,10 @@ import sys
 from hinge.border.asking import ask
 from hinge.border.terminal import show
 from hinge.command import CONFIGURATION, parser
-from hinge.events.forms import SIMULATED, WORDS
+from hinge.events.forms import WORDS
 from hingetulip_words.explained import explained
 
-WORDS_OF_NETS = ", ".join(word.form for name, word in WORDS.items() if name not in SIMULATED)
+WORDS_OF_NETS = ", ".join(word.form for word in WORDS.values() if not word.is_simulated)
 WHAT = f"""\
 Changes a link of hinge run, hinge udp or hinge net, at once. SOCKET is what --control names there, or a name of hinge up. WORDS are those of a
 timeline without the moment: a configuration line, [up|down] LINK or [up|down] outage LENGTH lossy. In a net they begin with two hosts, or

@@ -14,8 +14,8 @@ from hinge.border.terminal import show
 from hinge.command import Fault, module, parser
 from hinge.program import HINGE, dummynet
 from hinge.run.processes import SIGNALLED
-from hinge.simulated.build import lacking, source
-from hinge.simulated.kernel import found as kernel
+from hinge.simulated.build import missing_packages, source
+from hinge.simulated.kernel import usable_kernel as kernel
 
 WHAT = """\
 Tries what the commands of hinge need here: links in real time, the way to the rest of the network, simulated time, tables
@@ -83,7 +83,7 @@ def simulated() -> Finding:
     try:
         kernel()
     except Fault as missing:
-        return Finding(str(missing), tuple(lacking(source()).values()))
+        return Finding(str(missing), tuple(missing_packages(source()).values()))
     return of_run("--simulated")
 
 

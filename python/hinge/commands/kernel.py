@@ -14,7 +14,7 @@ from hinge.command import parser, say
 from hinge.command_line import add
 from hinge.program import clock
 from hinge.simulated import build, trial
-from hinge.simulated.kernel import cache, current_kernels, found
+from hinge.simulated.kernel import cache, current_kernels, usable_kernel
 
 WHAT = """\
 Builds a kernel in which `hinge run --simulated` runs programs, in place of the
@@ -63,7 +63,7 @@ def main() -> None:
     if arguments.clock:
         show(clock())
     elif arguments.path:
-        show(str(found().folder))
+        show(str(usable_kernel().folder))
     elif there:
         if not there[0].is_whole:
             build.add_init(there[0])

@@ -5,8 +5,9 @@ from __future__ import annotations
 import os
 from typing import Mapping, NamedTuple, Optional
 
-from hinge.events.kinds import Act, Cut, Heal
-from hinge.net.acts import line_of
+from hinge.events.forms import ACTS
+from hinge.events.kinds import PlannedAct, Cut, Heal
+from hinge.net.acts import act_line
 from hinge.net.clocks import IN_REAL_TIME
 from hinge.net.description import Description, read_description
 from hinge.net.disks import refuse_disks
@@ -18,7 +19,6 @@ from hinge.run.processes import Mask
 from hinge.run.settings import NetOptions
 from hinge.run.words import Wrong, duration
 
-BY_LINKS = ("stop", "cont", "kill")  # the acts that are a write each, on hosts with cgroups
 Linked = Mapping[str, "list[int]"]  # the descriptors of a host's cgroup, whose acts are the links'
 
 
@@ -65,13 +65,13 @@ class LinksPlan:
             [first, "remark format,3", *remarks, "contents", rest.rstrip("\n"), *self.act_remarks(), *self.act_lines(), ""]
         )
 
-    def is_of_links(self, act: Act) -> bool:
-        return act.host in self.linked and act.word in BY_LINKS
+    def is_of_links(self, act: PlannedAct) -> bool:
+        return act.host in self.linked and ACTS[act.word].is_write
 
     def act_lines(self) -> list[str]:
         """Returns the hosts and their acts that the links carry out, in the file's order, after all events of links."""
         lines = [
-            f"{'main ' * act.moment.of_main}at {act.moment.ns} {line_of(act)}"
+            f"{'main ' * act.moment.of_main}at {act.moment.ns} {act_line(act)}"
             for act in self.order.made.acts
             if self.is_of_links(act)
         ]

@@ -8,12 +8,12 @@ from sys import intern
 from typing import Iterable, Iterator, Sequence
 
 from hinge.command import CONFIGURATION
+from hinge.events.forms import line_meant
 from hinge.run.words import LONGEST, Wrong, bare, first_word, length_of, placed, read_lines
-from hingetulip_words.advice import line_meant
 from hingetulip_words.presets import preset
 
 
-NO_HOST = "no host of this net"
+UNKNOWN_HOST = "no host of this net"
 
 
 class Unobeyed(Wrong):

@@ -26,7 +26,7 @@ from hinge.pictures.drawing import DASHED, SOLID, Bars, Drawing, Item, Key, Line
 from hinge.pictures.panels import COLORS
 from hinge.pictures.series import NS_PER_S
 from hinge.run.words import Wrong
-from hinge.simulated.failures import NET, file_beside
+from hinge.simulated.failures import NET_KEY, file_beside
 
 SHADE, BAR, INCHES = "#f3cfc6", 9.0, 4.0
 WIDTH = 80  # letters of a line beside the picture
@@ -47,7 +47,7 @@ def net_in(path: Path) -> Iterator[Path]:
     if not read_bytes(str(path), MOST_TEXT).startswith(b"{"):
         yield path
         return
-    lines = read_object(path, "no failure").get(NET)
+    lines = read_object(path, "no failure").get(NET_KEY)
     if not isinstance(lines, list):
         raise Fault(f"{path}: no failure of a net", FILES)
     with file_beside(path.absolute(), "".join(f"{line}\n" for line in lines)) as net:

@@ -7,13 +7,13 @@ from __future__ import annotations
 import re
 from typing import Iterator, NamedTuple
 
-from hinge.plans.meaning import NEVER, SECOND, Meaning, ns_of
+from hinge.plans.meaning import FOR_EVER, SECOND, Meaning, ns_of
 from hinge.plans.spelling import Unread
 from hingetulip_words.presets import preset
 
-ENDS = ("client", "server")
+RUN_HOSTS = ("client", "server")
 CHOSEN = re.compile(r"(?P<way>client > server|server > client) packet (?P<packet>\d+) (?P<kind>lost|twice|late)(?: (?P<ms>\d+)ms)?")
-ACT = re.compile(r"at (?P<at>\S+) (?P<kind>cut|hold) (?P<way>client > server|server > client) (?P<length>\S+)")
+LINK_ACT = re.compile(r"at (?P<at>\S+) (?P<kind>cut|hold) (?P<way>client > server|server > client) (?P<length>\S+)")
 SIDES = {"client > server": "up", "server > client": "down"}
 
 
@@ -39,7 +39,7 @@ class OfRun(Meaning):
     def __init__(self, asked: list[Asked]) -> None:
         super().__init__("the command line", None)
         self.asked = asked
-        self.hosts, self.links = dict.fromkeys(ENDS, "host"), [ENDS]
+        self.hosts, self.links = dict.fromkeys(RUN_HOSTS, "host"), [RUN_HOSTS]
 
     def of(self, *options: str) -> Iterator[Asked]:
         return (one for option in options for one in self.asked if one.option == option)
@@ -90,7 +90,7 @@ class OfRun(Meaning):
             self.add(where, 0, line)
 
     def fault(self, one: Asked) -> None:
-        chosen, act = CHOSEN.fullmatch(one.text), ACT.fullmatch(one.text)
+        chosen, act = CHOSEN.fullmatch(one.text), LINK_ACT.fullmatch(one.text)
         if chosen:
             of_way = self.chosen[2 if chosen["way"] == "server > client" else 1]
             of_way.setdefault(chosen["kind"], {})[int(chosen["packet"])] = int(chosen["ms"] or 0)
@@ -109,7 +109,7 @@ class OfRun(Meaning):
         first = [one for one in self.events if (one.target, one.kind, one.moment) == (("pipe", pipe), "line", 0)][-1].line
         bare = re.sub(r" bw \S+", "", first)
         rates = [(round(float(at) * SECOND), round(float(rate))) for at, rate in rows]
-        for (at, rate), end in zip(rates, [*(at for at, _ in rates[1:]), NEVER]):
+        for (at, rate), end in zip(rates, [*(at for at, _ in rates[1:]), FOR_EVER]):
             where = f"{option} `{at / SECOND:g},{rate}`"
             if rate:
                 self.add(where, at, bare.replace(" config", f" config bw {rate}bit/s", 1))

@@ -10,7 +10,7 @@ from typing import Any, Callable, NamedTuple, Optional, Union
 
 from hinge.border.messages import ObeyedLine, Order, Reply
 from hinge.border.serving import PATIENCE, Answer, Client, Server
-from hinge.events.forms import OF_LINKS
+from hinge.events.forms import LINK_WORDS
 from hinge.run.changes import Change, Happening
 from hinge.run.host_lines import LONGEST_LINE, HostLines
 from hinge.run.page import Page
@@ -111,7 +111,7 @@ class Control:
         changes = [one for one in new if isinstance(one, Change)]
         if len(changes) < len(new):
             raise Wrong("an outage from now on loses packets: write `outage LENGTH lossy`")
-        for kind in ("change", *["act"] * (words.split()[0] in OF_LINKS)):
+        for kind in ("change", *["act"] * (words.split()[0] in LINK_WORDS)):
             self.lines.ask(f"line remark {kind},{words}", self.until, self.is_wanted)
         return self.followed(changes, moment)
 

@@ -47,9 +47,9 @@ class ListPresets(argparse.Action):
     def __call__(
         self, parser: argparse.ArgumentParser, namespace: argparse.Namespace, values: object, option: Optional[str] = None
     ) -> NoReturn:
-        from hingetulip_words.presets import table
+        from hingetulip_words.presets import preset_table
 
-        show(table())
+        show(preset_table())
         parser.exit()
 
 

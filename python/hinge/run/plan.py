@@ -18,6 +18,7 @@ from typing import TYPE_CHECKING, Iterable, Iterator, Optional, Sequence
 
 from hinge.arguments import is_number
 from hinge.border.files import untrusted
+from hinge.events.forms import CHANGES, line_meant
 from hinge.run.changes import Bandwidths, Change, Changes, Happening, Outage, refuse_second
 from hinge.run.options import MOST
 from hinge.run.traces import MAHIMAHI_BYTES, MOST_BINS, MS, Moments, counted, read_trace, spelled
@@ -38,8 +39,8 @@ from hinge.run.words import (
     target_of,
     with_bandwidth,
 )
-from hingetulip_words.advice import CHANGES, line_meant
-from hingetulip_words.link import Extra, Link, Place, WordError, refusal
+from hingetulip_words.link import Extra, LinkWords, Place, WordError, refusal_of_change
+from hingetulip_words.values import SHARES
 
 if TYPE_CHECKING:
     from hinge.events.kinds import Event, NewWords, TimedEvent
@@ -94,12 +95,12 @@ class Plan:
         self.last_free = LAST_PIPE
         self.has_moments = self.has_bins = False  # of mahimahi's traces, and whether they are counted over bins
 
-    def words(self, way: int, link: Link) -> None:
+    def words(self, way: int, link: LinkWords) -> None:
         """Reads the properties in a way's first words that its line can't express."""
         self.lose(way, link)
         self.extra(way, link.extra)
 
-    def lose(self, way: int, link: Link) -> None:
+    def lose(self, way: int, link: LinkWords) -> None:
         """Notes a loss in the words of a way. Wrong: rules send packets of the way to a queue with a line without `plr`."""
         loss = link.options.get("plr", "0")
         if float(loss):
@@ -113,11 +114,11 @@ class Plan:
         except WordError:
             return {}
 
-    def refuse_left_out(self, way: int, words: Link, event: NewWords) -> None:
+    def refuse_left_out(self, way: int, words: LinkWords, event: NewWords) -> None:
         """Wrong: a change leaves out an option that the link has at its beginning."""
         is_alike = len({str(self.begun(way)) for way in event.ways}) == 1
         side = event.side or ("" if is_alike else ("up", "down")[event.ways.index(way)])
-        if why := refusal(self.begun(way), words.options, " ".join(filter(None, (event.ends, side, "{}")))):
+        if why := refusal_of_change(self.begun(way), words.options, " ".join(filter(None, (event.ends, side, "{}")))):
             raise Wrong(f"'{event.words}': {why}")
 
     def take(self, line: str) -> None:
@@ -255,8 +256,7 @@ class Plan:
         items = []
         for way, (extra, pipes) in self.extras.items():
             items += [f"jitter {way} {pipes[0]} {max(1, extra.pipes)} {seed}"] if pipes else []
-            items += [f"copies {way} {extra.duplicate} {seed}"] if extra.duplicate else []
-            items += [f"corruption {way} {extra.corrupt} {seed}"] if extra.corrupt else []
+            items += [f"{word} {way} {chance} {seed}" for word in SHARES if (chance := getattr(extra, word))]
         return items
 
     def link(self, line: str, link: int = 0) -> None:

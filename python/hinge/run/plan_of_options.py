@@ -12,7 +12,7 @@ from hinge.run.plan import Plan
 from hinge.run.settings import LinkOptions, LiveOptions
 from hinge.run.transcripts import refuse_lost
 from hinge.run.words import WAYS, Target, Wrong, bare, duration, link_of, read_lines, target_of
-from hingetulip_words.link import NO_WORDS, Link, Place
+from hingetulip_words.link import NO_WORDS, LinkWords, Place
 from hingetulip_words.presets import Preset, preset
 
 BIN_LEAST, TRACE_LASTING = 10**6, "1h"  # ns, and how long traces are begun anew
@@ -27,7 +27,7 @@ def preset_of(name: Optional[str]) -> Optional[Preset]:
         raise Wrong(f"--preset: {unknown}") from None
 
 
-def own_link(text: str, option: str) -> Link:
+def own_link(text: str, option: str) -> LinkWords:
     """Returns a link of the command line. Wrong: the text is no link, or empty."""
     if not bare(text):
         raise Wrong(f"{option} {text!r}: {NO_WORDS}; an open one is 'bw 0'")

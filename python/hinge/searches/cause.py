@@ -8,11 +8,11 @@ from typing import Iterator, NamedTuple
 from hinge.searches.case import Case
 from hinge.searches.losses import Lost, losses_in, way_names
 from hinge.searches.runs import RunFiles, Runner, SummarizedRun
-from hinge.simulated.calls_kept import KEPT, CallRow, around, call_rows, pauses_in
-from hinge.simulated.machine import ALL, BOOTED, NONE, OF_DEADLOCKS, Machine
+from hinge.simulated.calls_kept import MOST_CALLS, CallRow, around, call_rows, pauses_in
+from hinge.simulated.machine import ALL_CORES, BOOTED, NO_CORES, DEADLOCK_CORES, Machine
 from hinge.simulated.pauses import given
 from hinge.simulated.places import has_debugger, innermost
-from hinge.simulated.start import HISTORY
+from hinge.simulated.start import MACHINE_HISTORY
 
 MOST = 4  # lost packets and pauses that are told
 
@@ -28,11 +28,13 @@ class Repetition(NamedTuple):
 def repetition_of(runner: Runner, case: Case) -> Repetition:
     """Looks at the lost packets in a run with a transcript, which would change the summary."""
     rows, losses = list[CallRow](), list[Lost]()
-    cores = OF_DEADLOCKS if has_debugger() else NONE
-    ran = runner.case(case, RunFiles((f"keep {KEPT}",), cores), lambda machine: rows.extend(call_rows(machine.folder / "calls")))
+    cores = DEADLOCK_CORES if has_debugger() else NO_CORES
+    ran = runner.case(
+        case, RunFiles((f"keep {MOST_CALLS}",), cores), lambda machine: rows.extend(call_rows(machine.folder / "calls"))
+    )
     if case.of_kind("losses"):
         what = runner.asked.what
-        runner.case(case, RunFiles(transcript=HISTORY), lambda machine: losses.extend(losses_in(what, machine) or ()))
+        runner.case(case, RunFiles(transcript=MACHINE_HISTORY), lambda machine: losses.extend(losses_in(what, machine) or ()))
     return Repetition(ran, rows, losses)
 
 
@@ -45,7 +47,7 @@ def pause_place(runner: Runner, case: Case, call: int, process: int) -> str:
         texts.append(innermost(machine.folder, process, machine.root))
 
     if has_debugger():
-        runner.case(case, RunFiles((f"core {call}",), ALL), look)
+        runner.case(case, RunFiles((f"core {call}",), ALL_CORES), look)
     return "".join(texts)
 
 

@@ -11,7 +11,7 @@ from hinge.net.description import read_description
 from hinge.replays.replay import PROTOCOLS
 from hinge.run.plan_of_options import LINKS
 from hinge.simulated.machine import Machine
-from hinge.simulated.start import HISTORY
+from hinge.simulated.start import MACHINE_HISTORY
 
 SUBMIT, LOST = re.compile(r"c,\d+,submit,(pipe|queue),(\d+),"), "r,lost"
 CONFIGURED = re.compile(r"c,\d+,configure,pipe (\d+) config(?P<cut>.* plr 1(?![.\d]))?")
@@ -66,5 +66,5 @@ def lines_of_losses(what: "list[str]", losses: "list[Lost]") -> Iterator[str]:
 
 def losses_in(what: "list[str]", machine: Machine) -> "Optional[list[Lost]]":
     """Returns the lost packets of a machine's transcript."""
-    paths = sorted(machine.room.kept.glob(f"{HISTORY}*"), key=lambda path: (len(path.name), path.name))
+    paths = sorted(machine.room.kept.glob(f"{MACHINE_HISTORY}*"), key=lambda path: (len(path.name), path.name))
     return packets_lost(paths, len(way_names(what)))

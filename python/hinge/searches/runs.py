@@ -15,8 +15,8 @@ from hinge.run.settings import SimulatedOptions
 from hinge.searches.case import Case
 from hinge.simulated.failures import file_beside
 from hinge.simulated.job import real_limit_of, refuse_outside
-from hinge.simulated.kernel import found
-from hinge.simulated.machine import NONE, SIGNALLED, Machine
+from hinge.simulated.kernel import usable_kernel
+from hinge.simulated.machine import NO_CORES, SIGNALLED, Machine
 from hinge.simulated.start import planned, reported
 
 NO_RUN = "no run of a search"
@@ -46,7 +46,7 @@ class RunFiles(NamedTuple):
     """
 
     more: "tuple[str, ...]" = ()  # as in Settings
-    cores: str = NONE
+    cores: str = NO_CORES
     transcript: Optional[str] = None
 
 
@@ -114,7 +114,7 @@ class Runner:
     """Makes runs, each in a separate machine. No machine outlives the runner."""
 
     def __init__(self, options: SearchSettings) -> None:
-        self.asked, self.kernel, self.running, self.is_over = options, found(), set[Machine](), False
+        self.asked, self.kernel, self.running, self.is_over = options, usable_kernel(), set[Machine](), False
 
     def run(
         self, what: "Sequence[str]", seed: int, pauses: Optional[str], watch: RunFiles = PLAIN, look: Optional[Look] = None

@@ -16,16 +16,16 @@ from hinge.searches.cause import cause_lines, repetition_of
 from hinge.searches.losses import Lost, lines_of_losses, losses_in
 from hinge.searches.runs import RunFiles, Runner, Runs, SearchSettings, command_words
 from hinge.searches.shrinking import least
-from hinge.simulated.failures import NET, WORDS
-from hinge.simulated.start import HISTORY
+from hinge.simulated.failures import NET_KEY, WORDS_KEY
+from hinge.simulated.start import MACHINE_HISTORY
 
 FAILED, NOT_AGAIN = 1, 76
 
 
 def write_failure(path: str, words: "list[str]", net: Optional[str], record: "dict[str, Any]") -> None:
-    lines = {} if net is None else {NET: net.splitlines()}
+    lines = {} if net is None else {NET_KEY: net.splitlines()}
     with writing(path) as file:
-        file.write(json.dumps({WORDS: words, **lines, **record}, indent=1) + "\n")
+        file.write(json.dumps({WORDS_KEY: words, **lines, **record}, indent=1) + "\n")
 
 
 def show_runs(runs: Runs, numbers: "list[int]") -> "list[int]":
@@ -51,7 +51,7 @@ def cases_of(runner: Runner, seed: int, record: "dict[str, Any]") -> "Iterator[C
     """Yields a failing seed's cases: with a line for each lost packet, and with the words for losses."""
     losses: "list[Optional[list[Lost]]]" = []
     what, pauses = runner.asked.what, runner.asked.pauses
-    runner.run(what, seed, pauses, RunFiles(transcript=HISTORY), lambda machine: losses.append(losses_in(what, machine)))
+    runner.run(what, seed, pauses, RunFiles(transcript=MACHINE_HISTORY), lambda machine: losses.append(losses_in(what, machine)))
     if losses[0] is not None:
         yield case_of(what, seed, record, list(lines_of_losses(what, losses[0])))
     yield case_of(what, seed, record)

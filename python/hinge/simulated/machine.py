@@ -30,7 +30,7 @@ TIMED_OUT = 124  # as that of timeout(1)
 SIGNALLED = 128
 NO_LIFE, OVER = signal.SIGUSR1, signal.SIGALRM  # why a machine ends its job: nothing of it will ever wake, or its time is over
 LIBRARIES, LIBRARIES_SIZE = "/etc/ld.so.cache", 1 << 20
-NONE, OF_DEADLOCKS, ALL = "none", "deadlock", "all"  # cores that the launcher looks at
+NO_CORES, DEADLOCK_CORES, ALL_CORES = "none", "deadlock", "all"  # cores that the launcher looks at
 
 
 class Settings(NamedTuple):
@@ -45,7 +45,7 @@ class Settings(NamedTuple):
     limit: int = 0  # ns of simulated time, or 0
     root: Optional[str] = None  # a folder that is the machine's root, of which nothing is written
     more: "tuple[str, ...]" = ()  # lines for /proc/pauses: `keep CALLS`, and `core CALL`
-    cores: str = NONE  # which processes leave a core for the launcher
+    cores: str = NO_CORES  # which processes leave a core for the launcher
 
 
 class MachineEnded(NamedTuple):

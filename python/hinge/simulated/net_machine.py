@@ -5,6 +5,7 @@ from __future__ import annotations
 from pathlib import Path
 from typing import NamedTuple, Optional
 
+from hinge.events.forms import ACTS
 from hinge.net.acts import Done
 from hinge.net.clocks import clock_number
 from hinge.net.net_rooms import NetEnds, NetRooms
@@ -58,7 +59,7 @@ class NetRun(NamedTuple):
         texts.append(str(len(order.made.acts)))
         for act in order.made.acts:
             base, host = "main" if act.moment.of_main else "start", str(self.rooms.index(act.host))
-            texts += [base, str(act.moment.ns), act.word, host, str(act.fault), act.more]
+            texts += [base, str(act.moment.ns), act.word, ACTS[act.word].ending, host, str(act.fault), act.more]
         return texts
 
     def told(self, folder: Path) -> Optional[MachineMessages]:

@@ -14,7 +14,7 @@ from hinge.simulated.pauses import SHOWN, PausesMade, pauses_made
 Record = dict[str, Any]
 
 
-class Outcome(NamedTuple):
+class RunOutcome(NamedTuple):
     ended: MachineEnded
     real: float  # s
     interrupts: int
@@ -26,7 +26,7 @@ class Outcome(NamedTuple):
     random: "list[str]"  # programs that ask the processor itself
 
     @classmethod
-    def of(cls, machine: Machine, endings: MachineEnded, settings: Settings) -> Outcome:
+    def of(cls, machine: Machine, endings: MachineEnded, settings: Settings) -> RunOutcome:
         real, interrupts, hides = machine.real(), machine.interrupts, machine.hides_the_processor
         given, pauses, random = (
             machine.job.given(),

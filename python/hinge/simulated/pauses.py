@@ -21,7 +21,7 @@ STEPS = 11  # a pause between two calls is 2^11 instructions behind the first on
 LONG = 3  # by half of the seeds that draw pauses, all are of an eighth of the longest at least
 MOST_GIVEN = 256  # the kernel's PAUSES_KEPT
 SHOWN = 10  # pauses that are told in words
-FORM = "neither pauses one by one, as 1034-16ms,2200+0.5s,2304+5us@250, nor `drawn`"
+NO_PAUSES = "neither pauses one by one, as 1034-16ms,2200+0.5s,2304+5us@250, nor `drawn`"
 
 
 class Given(NamedTuple):

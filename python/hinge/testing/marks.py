@@ -35,13 +35,13 @@ class Ends(NamedTuple):
 
 def words_of(options: Mapping[str, object]) -> str:
     """Returns a link's words for another tool's options, such as bw="10Mbit/s"; an empty text if they are none."""
-    from hingetulip_words.advice import OPTIONS, OTHER_NAMES
+    from hingetulip_words.advice import OPTIONS_OF, OTHER_NAMES
     from hingetulip_words.link import WordError, as_words, read_link
 
     words = []
     for key, value in options.items():
         name, text = OTHER_NAMES.get(key.lower(), key.lower()), str(value)
-        if name not in OPTIONS["pipe"]:
+        if name not in OPTIONS_OF["pipe"]:
             return ""
         words.append(as_words(name, text))
     try:

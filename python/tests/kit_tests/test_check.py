@@ -13,7 +13,7 @@ from kit import TOP, folder, run
 
 from hinge.checks.histories import HistoryRecords, bad_record
 from hinge.checks.rows import HEADER
-from hingetulip_words.advice import advice, words_of
+from hingetulip_words.advice import advice, words_before_comment
 from hinge.program import dummynet
 
 HEAD = ",".join(HEADER) + "\n"
@@ -146,7 +146,7 @@ class Lines(unittest.TestCase):
         for line in REPLACED:
             with self.subTest(line):
                 found = re.search(r"word (\d+): (.*)", verdict(line).stderr)
-                words = words_of(line)
+                words = words_before_comment(line)
                 words[int(found[1]) - 1] = advice(words, int(found[1]), found[2]).word or ""
                 assert verdict(" ".join(words)).returncode == 0, words
 

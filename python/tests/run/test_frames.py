@@ -133,7 +133,7 @@ class OfSwitches(unittest.TestCase):
 
     def test_jitter_and_copies(self) -> None:
         got, _ = self.switched(
-            [Sent(0, frame(ALL, 0, b"x"))], "line pipe 60000 config delay 3\njitter 3 60000 1 1\ncopies 5 2147483648 1\n"
+            [Sent(0, frame(ALL, 0, b"x"))], "line pipe 60000 config delay 3\njitter 3 60000 1 1\nduplicate 5 2147483648 1\n"
         )
         assert got == [[], [frame(ALL, 0, b"x")], [frame(ALL, 0, b"x")] * 2]
 

@@ -4,6 +4,7 @@ from __future__ import annotations
 
 import os
 import subprocess
+import sys
 import time
 from pathlib import Path
 
@@ -14,6 +15,11 @@ from hinge.net import CommandFailed, Net, NetError
 from hinge.run.cgroups import own_folder
 
 TWO = "link a c 5ms\n"
+NAP = """from hinge.events import forms
+from hinge.__main__ import main
+forms.ACTS["nap"] = forms.WORDS["nap"] = forms.Word("nap HOST", "", is_write=%s)
+main()
+"""
 
 
 @needs_rooms
@@ -129,6 +135,19 @@ class OfHosts(InAFolder):
         )
         self.assertEqual((done.returncode, self.lines()), (0, ["0"]), done.stderr)
         self.assertEqual(list(Path(str(own_folder())).glob("hinge-*-stopped")), [])
+
+    def test_an_act_without_an_effect_ends_the_run(self) -> None:
+        """None of the three programs that act on hosts takes an unknown word for another one."""
+        self.file.write_text(f"host a exec sleep 99\nmain c sleep 9\n{TWO}at 100ms nap a\n")
+        for is_write, more, told in (
+            (False, [], "hinge net: nap: no act on a host"),
+            (True, [], "hinge: act nap a 0: no line"),
+            (False, ["--simulated"], "the simulated machine ended by itself: nap: Function not implemented"),
+        ):
+            words = [sys.executable, "-c", NAP % is_write, "net", self.file, *more]
+            done = subprocess.run(words, capture_output=True, text=True, timeout=60)
+            self.assertNotEqual(done.returncode, 0)
+            self.assertIn(told, done.stderr)
 
     def test_a_net_without_a_main_command_lasts_until_a_restart(self) -> None:
         done = self.net(

@@ -129,7 +129,7 @@ class OfSegments(unittest.TestCase):
         with 0.
         """
         sent = [build(at, ACK, os.urandom(999 + at % 2), at) for at in range(20) for build in (in_ipv4, in_ipv6)]
-        link = Linked(f"{SEEDS}line pipe 1 config\ncorruption 0 {2**31} 9\n", carrier="tun")
+        link = Linked(f"{SEEDS}line pipe 1 config\ncorrupt 0 {2**31} 9\n", carrier="tun")
         for number, packet in enumerate(sent, 1):
             link.near.send(noted(packet))
             got, header = link.far.recv(70000), 24 if packet[0] >> 4 == 4 else 40

@@ -11,7 +11,7 @@ from linked import needs_rooms, run
 
 from hinge.events.forms import WORDS
 from hinge.events.idle import idle_events
-from hinge.events.kinds import Act, Moment
+from hinge.events.kinds import PlannedAct, Moment
 from hinge.net.acts import Done
 from hinge.net.description import read_description
 from hinge.net.net_plan import NetPlan
@@ -26,7 +26,7 @@ MS = 10**6
 
 def done(word: str, asked: int, late: float, of_main: bool = True) -> Done:
     """Returns an act that was due this many ms after the main command's start at 1 s."""
-    return Done(round((asked + late + 1000 * of_main) * MS), Act(Moment(asked * MS, of_main, ""), word, "a"))
+    return Done(round((asked + late + 1000 * of_main) * MS), PlannedAct(Moment(asked * MS, of_main, ""), word, "a"))
 
 
 def ran(*came: int) -> Counts:
@@ -118,7 +118,8 @@ class OfIdleEvents(InAFolder):
         reports it.
         """
         self.NET = f"{self.NET}disk a data\n"
-        begun = {"heal": "cut", "restart": "kill", "cont": "stop"}
+        endings = {name: word.ending for name, word in WORDS.items()}
+        begun = {end: name for name, end in endings.items() if end}
         of_hosts = [f"{word} a{' +2s' * (word == 'skew')}" for word in WORDS]
         self.assertRaisesRegex(Wrong, "'corrupt': of a whole run", self.idle, "1s a c 5ms corrupt 1%")
         for words in [*of_hosts, "a c outage 1s", "a c outage 1s lossy", "a c 6ms", "a c pipe 1 config delay 6"]:
@@ -130,8 +131,8 @@ class OfIdleEvents(InAFolder):
             except Wrong as wrong:
                 told = re.findall("goes on then|leave one of them out", str(wrong))
             self.assertTrue(told, words)
-            for end, fault in begun.items():
-                if end != "restart" and fault != word:
+            for end in begun:
+                if WORDS[end].lacking and endings.get(word) != end:
                     self.assertRaisesRegex(Wrong, "goes on then", self.idle, f"1s {words}", f"2s {end} a")
 
     def test_what_ends_earlier_covers_nothing_behind(self) -> None:
