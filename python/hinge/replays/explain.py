@@ -2,17 +2,20 @@
 
 from __future__ import annotations
 
+from bisect import bisect_left, bisect_right
 from dataclasses import dataclass
-from itertools import chain, islice, takewhile
+from itertools import chain
 from typing import Callable, Optional
 
+from hinge.arguments import TABLE_FLOWS
 from hinge.command import ROWS, Fault
 from hinge.configurations.configured import Pipe, Queue, Setting
-from hinge.lazy import few as np
+from hinge.lazy import Integers, few as np
 from hinge.loss import KEPT, LOST as LOST_WORD
-from hinge.replays.columns import GREATEST
+from hinge.replays.columns import GREATEST, Lazily
+from hinge.replays.groups import Groups
 from hinge.replays.link_order import LinkOrder, WaitedFor
-from hinge.replays.links import BITS_NS, UNKNOWN, Parts, Spell, bandwidth_of, delay_of
+from hinge.replays.links import BITS_NS, UNKNOWN, Parts, Spell, bandwidth_of, delay_of, loss_of
 from hinge.replays.replay import FULL, HELD, LOST, NONE, OUT
 from hinge.replays.units import ms, packets, rows, seconds
 
@@ -31,6 +34,7 @@ class Explainer:
     def __post_init__(self) -> None:
         self.replay = self.parts.replay
         self.packets = self.replay.packets
+        self.known_turns: dict[tuple[tuple[str, int], Callable[[Setting], int], int], list[int]] = {}
         self.order, self.is_history = LinkOrder(self.parts), self.parts.configuration.path == self.replay.path
         if (self.replay.at != np.maximum.accumulate(self.packets.moment)).any():
             why = "its rows didn't come in their order, as those of several callers: no queue can be told"
@@ -61,22 +65,25 @@ class Explainer:
     def spell(self, number: int) -> Optional[Spell]:
         return None if number == UNKNOWN else self.parts.configuration.spells[number]
 
+    def turns(self, number: int, value: Callable[[Setting], int]) -> list[int]:
+        """Returns the places where the value changes among this target's spells. Other spells in outages don't count."""
+        spells, outages = self.parts.configuration.spells, self.parts.of_outages
+        key = spells[number].target, value, number if number in outages else UNKNOWN
+        if key not in self.known_turns:
+            own = enumerate(self.parts.configuration.by_target[key[0]])
+            values = [
+                (at, (one := spells[place].setting) and value(one)) for at, place in own if place == number or place not in outages
+            ]
+            self.known_turns[key] = [at for (at, one), (_, before) in zip(values, [(0, UNKNOWN), *values]) if one != before]
+        return self.known_turns[key]
+
     def time_of(self, number: int, value: Callable[[Setting], int]) -> tuple[Optional[int], Optional[int]]:
         """From when to when a pipe or queue had the value of this spell; None where that was from the beginning, or to the end."""
-        spells, places = (
-            self.parts.configuration.spells,
-            self.parts.configuration.by_target[self.parts.configuration.spells[number].target],
-        )
-        at, wanted = places.index(number), value(spells[number].setting)  # type: ignore[arg-type]
-
-        def is_same(place: int) -> bool:
-            setting = spells[place].setting
-            return place in self.parts.of_outages or setting is not None and value(setting) == wanted
-
-        first = at - sum(1 for _ in takewhile(is_same, reversed(places[:at])))
-        first += sum(1 for _ in takewhile(self.parts.of_outages.__contains__, places[first:at]))
-        end = at + 1 + sum(1 for _ in takewhile(is_same, places[at + 1 :]))
-        return spells[places[first]].moment if first else None, spells[places[end]].moment if end < len(places) else None
+        spells, turns = self.parts.configuration.spells, self.turns(number, value)
+        places = self.parts.configuration.by_target[spells[number].target]
+        at = bisect_right(turns, bisect_left(places, number))
+        begin, ends = turns[at - 1], turns[at : at + 1]
+        return spells[places[begin]].moment if begin else None, spells[places[ends[0]]].moment if ends else None
 
     def while_so(self, number: int, value: Callable[[Setting], int]) -> str:
         """Describes the same in words; an empty text if the value never changed."""
@@ -91,7 +98,7 @@ class Explainer:
     def shades(self, end: int) -> set[tuple[int, int]]:
         """From when to when a pipe lost all packets, which it didn't from the beginning, or held all."""
         lossy = [
-            self.time_of(number, lambda setting: setting.loss)
+            self.time_of(number, loss_of)
             for number, spell in enumerate(self.parts.configuration.spells)
             if spell.setting is not None and spell.setting.loss == LOSS_PARTS
         ]
@@ -162,7 +169,7 @@ class Explainer:
         length, took = int(self.packets.length[place]), int(self.parts.transmission[place])
         rounding = "" if length * BITS_NS % bandwidth == 0 else ", rounded up to whole ns"
         in_force = self.while_so(carrier, bandwidth_of)
-        alone = " to " in in_force and np.count_nonzero(self.replay.is_out & (self.parts.carrier == carrier)) == 1
+        alone = " to " in in_force and self.parts.carried[carrier + 1] == 1
         whose = f", {in_force}{' for this packet alone, as a trace or an outage has it' * bool(alone)}" if in_force else ""
         return f"Its transmission took {ms(took)} ({length:,} bytes at {bandwidth:,} bit/s{rounding}{whose})."
 
@@ -170,30 +177,41 @@ class Explainer:
         if delay == 0:
             return "The link was free, so its transmission began at once."
         wait = self.order.wait(place)
-        if sum(wait.costs) != delay:
-            raise self.parts.another(f"row {place + 1} would have waited {ms(sum(wait.costs))}")
+        if (total := int(wait.costs.sum())) != delay:
+            raise self.parts.another(f"row {place + 1} would have waited {ms(total)}")
         return f"It waited {ms(delay)} for {self.link_name(place)}: {'; '.join(self.waited_for(place, wait))}."
 
     def waited_for(self, place: int, wait: WaitedFor) -> list[str]:
-        """Returns the packets that a packet waited for, by flow, with each group's cost in time."""
-        lines: list[str] = []
+        """Returns a line with the cost in time for each flow ahead of a packet; a last line sums up small flows among many."""
+        lines, places, costs, own = list[str](), wait.places, wait.costs, int(self.replay.flow[place])
         if wait.first_was_sending:
-            first = int(wait.places[0])
+            first = int(places[0])
             whose = f" of {self.flow_name(first)}" if self.parts.is_shared[place] else ""
             before = f"row {first + 1}{whose}, which was under transmission, had been sent"
-            lines.append(f"{ms(wait.costs[0])} until {f'the end of {self.outage(first)}' if self.is_outage(first) else before}")
-        columns = (column[wait.places].tolist() for column in (self.packets.five_tuple, self.packets.word, self.replay.flow))
-        waited, flows = zip(wait.places.tolist(), wait.costs, *columns), dict[int, dict[int, int]]()
-        for one, cost, five_tuple, word, flow in islice(waited, int(wait.first_was_sending), None):
+            lines.append(f"{ms(int(costs[0]))} until {f'the end of {self.outage(first)}' if self.is_outage(first) else before}")
+            places, costs = places[1:], costs[1:]
+        places, costs, others = self.largest(place, places, costs)
+        columns = (column[places].tolist() for column in (self.packets.five_tuple, self.packets.word, self.replay.flow))
+        flows: dict[int, dict[int, int]] = {}
+        for one, cost, five_tuple, word, flow in zip(places.tolist(), costs.tolist(), *columns):
             if five_tuple == self.parts.of_nobody and word == KEPT:
                 lines.append(f"{ms(cost)} for {self.outage(one)}")
             else:
                 flows.setdefault(flow, {})[one] = cost
-        own = int(self.replay.flow[place])
-        return [
-            *lines,
-            *(self.group(place, flow == own, flows[flow]) for flow in sorted(flows, key=lambda flow: (flow != own, flow))),
-        ]
+        numbers = sorted(flows, key=lambda flow: (flow != own, flow))
+        return [*lines, *(self.group(place, flow == own, flows[flow]) for flow in numbers), *others]
+
+    def largest(self, place: int, places: Integers, costs: Integers) -> tuple[Integers, Integers, list[str]]:
+        """Returns the packets and costs for this flow and the largest flows, as many as a table lists, and a line about the rest."""
+        if len(places) <= TABLE_FLOWS or not self.parts.is_shared[place]:
+            return places, costs, []
+        flow, own = self.replay.flow[places], self.replay.flow[place]
+        flows = Groups(flow, Lazily(int(flow.max()) + 1, str)).largest(np.where(flow == own, GREATEST, costs), TABLE_FLOWS)
+        if not flows.has_rest:
+            return places, costs, []
+        is_told = flows.of < TABLE_FLOWS
+        rest = costs[~is_told]
+        return places[is_told], costs[is_told], [f"{ms(int(rest.sum()))} for {packets(len(rest))} of {flows.names[-1]}"]
 
     def group(self, place: int, is_own: bool, costs: dict[int, int]) -> str:
         """Describes one flow's packets ahead of a packet, each with its cost."""
@@ -211,7 +229,7 @@ class Explainer:
         word, own = int(self.packets.word[place]), self.own(place)
         if word & LOW_31_BITS >= own.loss:
             raise self.parts.another(f"row {place + 1} would not have been lost")
-        in_force = self.while_so(int(self.parts.own[place]), lambda setting: setting.loss)
+        in_force = self.while_so(int(self.parts.own[place]), loss_of)
         if own.loss == LOSS_PARTS and in_force:
             return f"It was lost in a cut or a lossy outage: {self.target_name(place)} lost all packets {in_force.removeprefix('in force ')}."
         if word & LOW_31_BITS == LOST_WORD and own.loss == LOSS_PARTS // 2:
