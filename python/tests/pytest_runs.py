@@ -1,7 +1,5 @@
 """Runs of pytest with the plugin, and the counts of their last lines."""
 
-from __future__ import annotations
-
 import importlib.util
 import os
 import re

@@ -1,7 +1,5 @@
 """The repository's reference beside the module: its scenarios, and the module's answers in its words."""
 
-from __future__ import annotations
-
 import sys
 from functools import cache
 from pathlib import Path

@@ -1,7 +1,5 @@
 """Two simulated hosts, and what runs on one."""
 
-from __future__ import annotations
-
 import asyncio
 import socket
 from typing import Any, Awaitable

@@ -4,8 +4,6 @@ lawful.
 A packet of 1,000 bytes takes 1 ms at 8 Mbit/s; a datagram has 28 bytes more than its data.
 """
 
-from __future__ import annotations
-
 import asyncio
 import subprocess
 import tempfile

@@ -1,7 +1,5 @@
 """Histories of runs in simulated time: valid, plain, and from a shaper that writes a history."""
 
-from __future__ import annotations
-
 import re
 import subprocess
 import tempfile

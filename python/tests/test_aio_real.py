@@ -1,7 +1,5 @@
 """Effects that a run leaves in modules imported meanwhile, and real calls that are refused or reported."""
 
-from __future__ import annotations
-
 import asyncio
 import faulthandler
 import importlib

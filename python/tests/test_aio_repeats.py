@@ -1,7 +1,5 @@
 """asyncio in simulated time: two runs of one seed are the same, also in two processes."""
 
-from __future__ import annotations
-
 import asyncio
 import errno
 import os

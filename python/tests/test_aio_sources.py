@@ -1,7 +1,5 @@
 """All sources of time and chance in Python: each follows the simulated clock or the seed, or TESTING names the limit."""
 
-from __future__ import annotations
-
 import ast
 import datetime
 import importlib.util

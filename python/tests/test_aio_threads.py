@@ -1,7 +1,5 @@
 """Threads, selectors and long runs in simulated time, and what of the system a run uses beside."""
 
-from __future__ import annotations
-
 import _socket
 import asyncio
 import ctypes

@@ -1,7 +1,5 @@
 """Audits of histories by hand and of those that the module writes, against `dummynet audit`."""
 
-from __future__ import annotations
-
 import io
 import os
 import pickle

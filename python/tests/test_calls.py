@@ -3,8 +3,6 @@
 A packet of 1,000 bytes takes 1 ms at 8 Mbit/s.
 """
 
-from __future__ import annotations
-
 import unittest
 from array import array
 from concurrent.futures import ThreadPoolExecutor

@@ -1,7 +1,5 @@
 """What the calls of the module refuse, and how the library is found."""
 
-from __future__ import annotations
-
 import copy
 import os
 import pickle

@@ -1,7 +1,5 @@
 """The clock that C code has in simulated time, with the library of `hinge kernel --clock` and without."""
 
-from __future__ import annotations
-
 import asyncio
 import ctypes
 import importlib.util

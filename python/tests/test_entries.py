@@ -1,7 +1,5 @@
 """The entries of histories: each kind of call and reply, faults, histories that the module writes, and their calls made again."""
 
-from __future__ import annotations
-
 import tempfile
 import unittest
 from pathlib import Path

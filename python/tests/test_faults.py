@@ -1,7 +1,5 @@
 """Faults that are chosen: their lines, what they do to packets, and the bugs that they find, each by the fewest."""
 
-from __future__ import annotations
-
 import asyncio
 import tempfile
 import time

@@ -1,7 +1,5 @@
 """The module and the crate for cargo against hingetulip.h: structs, numbers and functions are those of the header."""
 
-from __future__ import annotations
-
 import ctypes
 import re
 import unittest

@@ -1,8 +1,6 @@
 """Link words: short and in full, and whether the emulator accepts every text that the reader accepts. run/test_link_ways.py tests
 the answers to wrong words."""
 
-from __future__ import annotations
-
 import random
 import re
 import unittest

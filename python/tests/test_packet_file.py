@@ -1,7 +1,5 @@
 """Packet files as packets: each row's fields, every form of a row, the first fault, and a replay of the packets."""
 
-from __future__ import annotations
-
 import pickle
 import unittest
 from pathlib import Path

@@ -1,7 +1,5 @@
 """The pytest plugin's reports on values that a seed varied, on marks without effect, and on real calls."""
 
-from __future__ import annotations
-
 
 from pytest_runs import Runs
 

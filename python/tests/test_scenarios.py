@@ -1,7 +1,5 @@
 """The module against the reference: random scenarios, each reply compared."""
 
-from __future__ import annotations
-
 import unittest
 from itertools import groupby
 from random import Random

@@ -1,8 +1,6 @@
 """A service against values worked out by hand, and eight threads that share one, whose history `dummynet audit` finds
 lawful."""
 
-from __future__ import annotations
-
 import os
 import re
 import resource

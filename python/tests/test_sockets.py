@@ -3,8 +3,6 @@
 A packet of 1,000 bytes takes 1 ms at 8 Mbit/s. A datagram has 28 bytes more than its data, and an IPv6 datagram 48.
 """
 
-from __future__ import annotations
-
 import asyncio
 import errno
 import fcntl

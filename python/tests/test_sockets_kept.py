@@ -1,7 +1,5 @@
 """Names of hosts and sockets bound to them, and groups of multicast."""
 
-from __future__ import annotations
-
 import asyncio
 import socket
 import unittest

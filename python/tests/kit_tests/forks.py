@@ -1,7 +1,5 @@
 """Commands of the kit in a fork of the tests' process, which has numpy and the kit's modules already: no start of Python."""
 
-from __future__ import annotations
-
 import importlib
 import os
 import subprocess

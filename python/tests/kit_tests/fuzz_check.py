@@ -2,8 +2,6 @@
 the program takes all. `python3 python/tests/kit_tests/fuzz_check.py FROM TO` compares those of the seeds from FROM to
 TO."""
 
-from __future__ import annotations
-
 import contextlib
 import io
 import random

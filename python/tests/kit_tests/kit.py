@@ -1,7 +1,5 @@
 """What the tests share: running commands of the kit and the program, in a folder of their own."""
 
-from __future__ import annotations
-
 import csv
 import shutil
 import subprocess

@@ -1,7 +1,5 @@
 """Histories of replays, and the transcript of a live session."""
 
-from __future__ import annotations
-
 import subprocess
 
 from hinge.program import dummynet

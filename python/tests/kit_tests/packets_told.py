@@ -1,7 +1,5 @@
 """A capture that was changed."""
 
-from __future__ import annotations
-
 import subprocess
 from pathlib import Path
 

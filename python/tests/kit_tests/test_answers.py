@@ -1,7 +1,5 @@
 """If a program is killed before, in or after its answer, or can't continue, the kit treats the answer as missing."""
 
-from __future__ import annotations
-
 import os
 import subprocess
 import unittest

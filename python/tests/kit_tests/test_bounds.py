@@ -1,7 +1,5 @@
 """The bound on delay next to the greatest delay of a run, as `hinge look` has both. The figures are made by hand."""
 
-from __future__ import annotations
-
 import json
 import subprocess
 import unittest

@@ -1,7 +1,5 @@
 """The frame around every command: its progress on a terminal, and its end if the system refuses something."""
 
-from __future__ import annotations
-
 import contextlib
 import errno
 import io

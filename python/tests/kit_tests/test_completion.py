@@ -1,7 +1,5 @@
 """The completion of hinge's command line, typed in a terminal of bash and of zsh."""
 
-from __future__ import annotations
-
 import os
 import pty
 import shutil

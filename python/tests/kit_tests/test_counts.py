@@ -1,7 +1,5 @@
 """Frames are joined by no count but the kit's own: what another program counts otherwise maps no frame wrongly."""
 
-from __future__ import annotations
-
 import os
 import re
 import struct

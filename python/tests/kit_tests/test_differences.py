@@ -1,7 +1,5 @@
 """`hinge look` over two histories: where they differ."""
 
-from __future__ import annotations
-
 import json
 import unittest
 

@@ -1,7 +1,5 @@
 """hinge doctor: each line says yes, or no with why, and the last one installs what is missing."""
 
-from __future__ import annotations
-
 import os
 import unittest
 from unittest import mock

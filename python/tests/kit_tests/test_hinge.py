@@ -1,7 +1,5 @@
 """`hinge` itself: help and version, a word that is no command, and the programs that it accepts."""
 
-from __future__ import annotations
-
 import contextlib
 import importlib
 import io

@@ -1,7 +1,5 @@
 """Histories, transcripts and packet files of each form, however their bytes come in blocks; and reports of live sessions."""
 
-from __future__ import annotations
-
 import os
 import random
 import shutil

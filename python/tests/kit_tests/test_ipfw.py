@@ -1,7 +1,5 @@
 """Configuration lines from files of ipfw and dnctl."""
 
-from __future__ import annotations
-
 import os
 import subprocess
 import unittest

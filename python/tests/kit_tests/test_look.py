@@ -1,7 +1,5 @@
 """`hinge look`: a replay's history tells what the packet file, the report and the configuration tell."""
 
-from __future__ import annotations
-
 import csv
 import json
 import subprocess

@@ -1,7 +1,5 @@
 """`hinge look` on a net's folder: ways, paths hop by hop, changes with their moments, and the picture."""
 
-from __future__ import annotations
-
 import json
 import unittest
 from pathlib import Path

@@ -1,7 +1,5 @@
 """`hinge look OPERATIONS --model`: its picture, and its refusals."""
 
-from __future__ import annotations
-
 import json
 import unittest
 from pathlib import Path

@@ -1,7 +1,5 @@
 """Models of loss: their figures by theory, and that a link loses exactly the packets that they say."""
 
-from __future__ import annotations
-
 import asyncio
 import itertools
 import unittest

@@ -1,8 +1,6 @@
 """The command line of every command: no option is abbreviated, thrown away for a second one, empty, unread or without effect. The
 options are those that the parsers have, so that a new one is tried too."""
 
-from __future__ import annotations
-
 import argparse
 import ast
 import contextlib

@@ -1,7 +1,5 @@
 """Outputs of commands: none is an input, under whatever name, and a command that fails leaves the older file."""
 
-from __future__ import annotations
-
 import errno
 import os
 import shutil

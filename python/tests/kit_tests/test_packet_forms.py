@@ -1,7 +1,5 @@
 """`hinge packets` over captures of every form and of every kind of link."""
 
-from __future__ import annotations
-
 import contextlib
 import gzip
 import io

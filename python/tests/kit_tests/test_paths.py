@@ -1,8 +1,6 @@
 """`hinge look` of a net between its links: one in which nothing happened between the links but what a router should do, and what is planted
 there."""
 
-from __future__ import annotations
-
 import json
 import re
 import unittest

@@ -1,7 +1,5 @@
 """Pictures have the series that they should: read from the figure and the page, not from the pixels."""
 
-from __future__ import annotations
-
 import gzip
 import json
 import os

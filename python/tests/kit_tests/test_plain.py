@@ -1,7 +1,5 @@
 """Tables and paragraphs on a machine without numpy: the same bytes as with it, and one line where a picture needs it."""
 
-from __future__ import annotations
-
 import os
 import random
 import shutil

@@ -1,7 +1,5 @@
 """The meaning of a net's file in its second reading, and transcripts that match and don't match it."""
 
-from __future__ import annotations
-
 import json
 from itertools import islice
 

@@ -1,7 +1,5 @@
 """The rules of --map: a live link and a capture read the same short words, and mean the same packets."""
 
-from __future__ import annotations
-
 import ipaddress
 import random
 import unittest

@@ -1,7 +1,5 @@
 """The table of flows against figures made by hand and from the report."""
 
-from __future__ import annotations
-
 import csv
 import io
 import subprocess

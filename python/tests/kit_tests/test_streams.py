@@ -1,7 +1,5 @@
 """Whatever fails in a command, its top reports the failure with a separate status, and in a line if writable."""
 
-from __future__ import annotations
-
 import subprocess
 import unittest
 

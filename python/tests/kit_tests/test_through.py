@@ -1,7 +1,5 @@
 """Captures as the far end sees them."""
 
-from __future__ import annotations
-
 import shlex
 import subprocess
 import unittest

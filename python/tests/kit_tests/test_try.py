@@ -1,7 +1,5 @@
 """hinge try: a first look by Python alone. Its transfer is lawful, whole and the same each time."""
 
-from __future__ import annotations
-
 import importlib
 import re
 import subprocess

@@ -1,8 +1,6 @@
 """The explanations from `why`, for all rows in three scenarios: the figures add up to the report's, and queues equal the
 reference's."""
 
-from __future__ import annotations
-
 import re
 import unittest
 from collections import Counter

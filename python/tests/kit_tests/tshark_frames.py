@@ -1,8 +1,6 @@
 """tshark's view of a capture: the IP packet of each frame, from the fields that tshark finds in it. The reader of the
 kit is tried against tshark."""
 
-from __future__ import annotations
-
 import subprocess
 from typing import Iterator, Optional
 

@@ -1,7 +1,5 @@
 """A command behind `hinge run`, and its summary."""
 
-from __future__ import annotations
-
 import json
 import subprocess
 from typing import Any

@@ -1,7 +1,5 @@
 """A running `hinge udp`, and datagrams that pass through it in both directions."""
 
-from __future__ import annotations
-
 import contextlib
 import re
 import resource

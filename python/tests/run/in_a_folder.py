@@ -1,7 +1,5 @@
 """A run of `hinge net`, and the files in its folder."""
 
-from __future__ import annotations
-
 import json
 import sys
 from typing import Any

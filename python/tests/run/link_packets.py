@@ -1,7 +1,5 @@
 """UDP packets, and the plan of a link between two sockets."""
 
-from __future__ import annotations
-
 from hinge.run.plan import Plan
 from linked import ip4
 

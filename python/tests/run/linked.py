@@ -1,7 +1,5 @@
 """The host between two sockets, which needs no privilege, packets, and `hinge` itself, for all tests of this folder."""
 
-from __future__ import annotations
-
 import os
 import re
 import shutil

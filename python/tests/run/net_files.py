@@ -1,7 +1,5 @@
 """Reads, plans and refuses files for `hinge net`."""
 
-from __future__ import annotations
-
 import pytest
 
 from with_folder import WithFolder

@@ -1,7 +1,5 @@
 """Files from which a test makes a plan."""
 
-from __future__ import annotations
-
 import tempfile
 import unittest
 

@@ -1,7 +1,5 @@
 """The control socket, with clients that are idle, send garbage, disappear or belong to another user."""
 
-from __future__ import annotations
-
 import contextlib
 import fcntl
 import json

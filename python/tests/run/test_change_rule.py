@@ -1,7 +1,5 @@
 """A change that leaves out a link's word, in each of the five forms of a change. LINKS.md states the rule."""
 
-from __future__ import annotations
-
 
 from with_folder import WithFolder
 

@@ -1,7 +1,5 @@
 """Changes of a running link, and questions to it, through `--control`."""
 
-from __future__ import annotations
-
 import contextlib
 import json
 import os

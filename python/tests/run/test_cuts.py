@@ -1,7 +1,5 @@
 """Cuts of a link are counted: a direction opens when the last cut ends, or by `heal`."""
 
-from __future__ import annotations
-
 import os
 import time
 import unittest

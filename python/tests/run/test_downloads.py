@@ -1,7 +1,5 @@
 """Downloads behind `hinge run`, from servers inside and from the world outside."""
 
-from __future__ import annotations
-
 import os
 import re
 import shlex

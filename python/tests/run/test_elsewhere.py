@@ -1,7 +1,5 @@
 """hinge's answers to other tools' commands and options: each answer is accepted unchanged."""
 
-from __future__ import annotations
-
 import contextlib
 import io
 import os

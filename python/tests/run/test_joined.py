@@ -1,7 +1,5 @@
 """`hinge run --netns`: a link inside an existing network, such as a container's."""
 
-from __future__ import annotations
-
 import os
 import re
 import shlex

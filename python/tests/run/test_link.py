@@ -1,7 +1,5 @@
 """The host between two sockets: packets, the map, losses, changes, outages and the end."""
 
-from __future__ import annotations
-
 import fcntl
 import select
 import signal

@@ -1,7 +1,5 @@
 """The host of a link by the clock: moments, and a machine with other work."""
 
-from __future__ import annotations
-
 import os
 import re
 import tempfile

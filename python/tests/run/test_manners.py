@@ -1,7 +1,5 @@
 """How `hinge run` treats its server, its standard streams and its files."""
 
-from __future__ import annotations
-
 import contextlib
 import json
 import os

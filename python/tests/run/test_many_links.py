@@ -1,7 +1,5 @@
 """The host for several links, its moments, and its remarks for an audit along a path."""
 
-from __future__ import annotations
-
 import os
 import subprocess
 import tempfile

@@ -1,7 +1,5 @@
 """`hinge net`: rooms of many hosts, their links and names, their commands, and the end."""
 
-from __future__ import annotations
-
 import os
 import re
 import subprocess

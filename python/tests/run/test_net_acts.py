@@ -1,7 +1,5 @@
 """Acts on the hosts of `hinge net`, and moments counted from the main command's start."""
 
-from __future__ import annotations
-
 import os
 import subprocess
 import time

@@ -1,7 +1,5 @@
 """`hinge net` with the outside world, and its end."""
 
-from __future__ import annotations
-
 import os
 import signal
 import subprocess

@@ -1,7 +1,5 @@
 """A net from Python: its start, changes during the run, and its end."""
 
-from __future__ import annotations
-
 import os
 import signal
 import socket

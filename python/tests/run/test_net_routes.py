@@ -1,7 +1,5 @@
 """`hinge net`: forwarding hosts, routes and groups for routing daemons, names of both families, and a link's MTU."""
 
-from __future__ import annotations
-
 import os
 import sys
 import unittest

@@ -1,7 +1,5 @@
 """`hinge status --openmetrics`: a parser of the format reads the text and finds the same content as in the JSON."""
 
-from __future__ import annotations
-
 import json
 import re
 from typing import NamedTuple

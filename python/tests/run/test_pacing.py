@@ -1,7 +1,5 @@
 """The host with a recorded trace and with outages: each packet leaves at its moment, whatever its length."""
 
-from __future__ import annotations
-
 import random
 import socket
 import time

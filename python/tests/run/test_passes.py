@@ -1,7 +1,5 @@
 """Jitter and duplicates: a second pass through a pipe with a drawn delay, and a second submission."""
 
-from __future__ import annotations
-
 import shutil
 import tempfile
 import unittest

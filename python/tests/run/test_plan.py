@@ -1,7 +1,5 @@
 """Words and files become a plan, without privileges or a host."""
 
-from __future__ import annotations
-
 import argparse
 import contextlib
 import io

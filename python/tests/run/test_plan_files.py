@@ -1,7 +1,5 @@
 """A link's plan from its files: traces and timelines."""
 
-from __future__ import annotations
-
 import time
 
 from hinge.run.plan import Plan

@@ -1,7 +1,5 @@
 """`--to` places a port of this system behind the link, at the command's own address and at `server`."""
 
-from __future__ import annotations
-
 import sys
 
 from linked import found, hinge, needs, needs_rooms, web_server

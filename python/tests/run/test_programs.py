@@ -1,7 +1,5 @@
 """Real programs behind `hinge run`, against the link's theory. A test is skipped if its program is missing."""
 
-from __future__ import annotations
-
 import json
 import os
 import pwd

@@ -1,7 +1,5 @@
 """`hinge run` in namespaces, on machines and for users that can create them."""
 
-from __future__ import annotations
-
 import contextlib
 import errno
 import json

@@ -1,7 +1,5 @@
 """Requests to the kernel through rtnetlink: routes in a few messages on one socket, in a separate network."""
 
-from __future__ import annotations
-
 import subprocess
 import sys
 import unittest

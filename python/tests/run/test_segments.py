@@ -1,7 +1,5 @@
 """The host between two sockets cuts large TCP packets like a network card, and joins packets. A header precedes each packet."""
 
-from __future__ import annotations
-
 import os
 import platform
 import socket

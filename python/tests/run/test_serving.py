@@ -1,7 +1,5 @@
 """The server of the control socket and its messages, in this process, without a run."""
 
-from __future__ import annotations
-
 import contextlib
 import errno
 import os

@@ -1,7 +1,5 @@
 """`hinge udp`: real clients and servers over loopback, without privileges."""
 
-from __future__ import annotations
-
 import os
 import socket
 import time

@@ -1,7 +1,5 @@
 """`hinge udp` with many clients, and with hostile ends."""
 
-from __future__ import annotations
-
 import resource
 import signal
 import socket

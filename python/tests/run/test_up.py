@@ -1,7 +1,5 @@
 """`hinge up` and `hinge down`: nets in the background, by names."""
 
-from __future__ import annotations
-
 import json
 import os
 import shutil

@@ -1,7 +1,5 @@
 """The users and terminals of the rooms, with subordinate ids and without."""
 
-from __future__ import annotations
-
 import os
 import shutil
 import subprocess

@@ -1,7 +1,5 @@
 """Causes beside the links that make a net's run void: late acts, waits for a processor, and a machine that slept."""
 
-from __future__ import annotations
-
 import re
 import time
 import unittest

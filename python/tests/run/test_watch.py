@@ -1,7 +1,5 @@
 """`--watch`: a line each second."""
 
-from __future__ import annotations
-
 import unittest
 
 from linked import needs, needs_rooms, run

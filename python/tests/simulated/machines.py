@@ -1,7 +1,5 @@
 """Commands in simulated time for all tests of this folder, and programs in C that are compiled once."""
 
-from __future__ import annotations
-
 import json
 import os
 import re

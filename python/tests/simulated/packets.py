@@ -1,7 +1,5 @@
 """The packets of a transcript."""
 
-from __future__ import annotations
-
 from dataclasses import dataclass
 from typing import Iterator
 

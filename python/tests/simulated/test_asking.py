@@ -1,7 +1,5 @@
 """A process that polls in a loop lets simulated time pass, whichever call it uses."""
 
-from __future__ import annotations
-
 import subprocess
 import sys
 

@@ -1,7 +1,5 @@
 """Programs over links meet the theory exactly: only readings of the simulated clock add time."""
 
-from __future__ import annotations
-
 import asyncio
 
 from machines import Ran, Simulated, needs

@@ -1,7 +1,5 @@
 """The systems of examples/found: each smallest failure breaks a claim, and for one seed the claim holds."""
 
-from __future__ import annotations
-
 import re
 import shutil
 import subprocess

@@ -1,7 +1,5 @@
 """Checksums describe a run's inputs, so that a replay on another machine is distinguishable from a different run."""
 
-from __future__ import annotations
-
 import json
 import shutil
 

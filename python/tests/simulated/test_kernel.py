@@ -2,8 +2,6 @@
 the patch.
 """
 
-from __future__ import annotations
-
 from machines import Simulated, needs, probe, probed
 
 SECOND, MILLISECOND = 10**9, 10**6

@@ -1,7 +1,5 @@
 """pytest's mark `simulated` runs a test in a machine of its own and brings back the test's report."""
 
-from __future__ import annotations
-
 import importlib.util
 import os
 import re

@@ -1,7 +1,5 @@
 """A net of hosts in simulated time: three nodes of etcd, whose leader is cut from its peers, are the same twice."""
 
-from __future__ import annotations
-
 import json
 import shutil
 import sys

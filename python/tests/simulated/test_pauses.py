@@ -1,7 +1,5 @@
 """Pauses of processes find what a single order of calls hides. They repeat, and the link doesn't pause."""
 
-from __future__ import annotations
-
 import argparse
 import sys
 import unittest

@@ -1,7 +1,5 @@
 """Widely used programs: two runs by one seed are equal byte for byte. docs/SIMULATED.md lists the programs."""
 
-from __future__ import annotations
-
 import os
 import shutil
 import subprocess

@@ -1,7 +1,5 @@
 """Two runs by one seed are equal byte for byte, and by two seeds they differ."""
 
-from __future__ import annotations
-
 import subprocess
 import sys
 from pathlib import Path

@@ -1,7 +1,5 @@
 """A search finds a fault that a seed draws, and removes everything that the failure doesn't need."""
 
-from __future__ import annotations
-
 import json
 import shlex
 import signal

@@ -1,7 +1,5 @@
 """The summary states how a program ended, and a run that can't continue ends at the moment of that verdict."""
 
-from __future__ import annotations
-
 import json
 import shutil
 import sys
