@@ -182,8 +182,7 @@ class Repeats(unittest.TestCase):
         self.assertIn("10.0.0.1: 65508 bytes, and a datagram has at most 65507: 1 refused", report)
 
     def test_a_host_that_crashes_and_comes_back(self) -> None:
-        """Of a question a second, those of the 2 s without the server get no answer. What was under way to it is
-        lost."""
+        """Of a question a second, those of the 2 s without the server get no answer. What was under way to it is lost."""
 
         async def main(net: aio.Network) -> list[int]:
             one, other = net.hosts["10.0.0.1"], net.hosts["10.0.0.2"]

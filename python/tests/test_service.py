@@ -1,5 +1,4 @@
-"""A service against values worked out by hand, and eight threads that share one, whose history `dummynet audit` finds
-lawful."""
+"""A service against values worked out by hand, and eight threads that share one, whose history `dummynet audit` finds lawful."""
 
 import os
 import re

@@ -92,8 +92,7 @@ def timed_in_ns(path: Path, frames: list[tuple[int, bytes]]) -> None:
 
 
 def odd_ethernet(path: Path) -> list[Expected]:
-    """Ethernet with tags, PPPoE, IPv6 with an extension header, fragments, segments of length 0, and frames that aren't
-    IP."""
+    """Ethernet with tags, PPPoE, IPv6 with an extension header, fragments, segments of length 0, and frames that aren't IP."""
     first, second = "192.0.2.1", "198.51.100.2"
     extended = struct.pack("!BBHI", 17, 0, 0, 0) + udp(4000, 4001, 60)
     quoted = b"\x03\x03" + bytes(6) + ip4(second, first, 17, udp(9, 10, 0))

@@ -1,6 +1,5 @@
-"""Random configurations: the first fault that `hinge check` tells is where the program has it, and it tells none where
-the program takes all. `python3 python/tests/kit_tests/fuzz_check.py FROM TO` compares those of the seeds from FROM to
-TO."""
+"""Random configurations: the first fault that `hinge check` tells is where the program has it, and it tells none where the program
+takes all. `python3 python/tests/kit_tests/fuzz_check.py FROM TO` compares those of the seeds from FROM to TO."""
 
 import contextlib
 import io

@@ -11,9 +11,8 @@ from hinge.program import dummynet
 
 
 def read(line: str) -> tuple[str, int, Setting | None]:
-    """Parses configuration lines in any spelling. Returns the last line's kind (`pipe` or `queue`), number and setting, which
-    is None for a delete.
-    """
+    """Parses configuration lines in any spelling. Returns the last line's kind (`pipe` or `queue`), number and setting, which is
+    None for a delete."""
     return setting_of(spelled_lines(line.encode())[-1])
 
 

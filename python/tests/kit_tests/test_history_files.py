@@ -27,8 +27,7 @@ class Forms(unittest.TestCase):
         self.assertEqual((done.returncode, done.stderr), (0, ""))
 
     def test_a_transcript_that_was_cut_anywhere(self) -> None:
-        """What stands in it is looked at: as many packets as there are calls with a reply, those out that were
-        delivered."""
+        """What stands in it is looked at: as many packets as there are calls with a reply, those out that were delivered."""
         submits = [f"c,0,submit,pipe,1,10.0.0.{row % 3},10.0.0.2,17,1,2,1000,0,{row * 700_000}" for row in range(8)]
         configured, collects = "pipe 1 config bw 8Mbit/s queue 3", ["c,0,collect,2500000", "c,0,collect,90000000"]
         whole = live([configured, *submits[:4], "next", collects[0], *submits[4:], collects[1]])
@@ -47,8 +46,7 @@ class Forms(unittest.TestCase):
         self.assertIn(told_end, done.stderr)
 
     def test_a_transcript_of_each_form(self) -> None:
-        """Under either first record, with remarks and empty lines between entries, quotes and other line ends, of any
-        caller."""
+        """Under either first record, with remarks and empty lines between entries, quotes and other line ends, of any caller."""
         other = SUBMIT.replace("c,0", "c,15").replace("pipe,1", "queue,9")
         whole = live(["pipe 1 config bw 8Mbit/s", f"{SUBMIT}5", f"{other}6", "c,3,collect,5000000", "c,3,show"])
         forms = [

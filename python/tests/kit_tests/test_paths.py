@@ -295,8 +295,7 @@ class Paths(unittest.TestCase):
         assert (status, lines[-2]) == (0, "10 packets on links, 5 handed on by hosts, 5 arrived")
 
     def test_what_a_host_leads_outside(self) -> None:
-        """The router gets packets for 192.0.2.1 and sends on answers of it, which is no fault where it leads
-        outside."""
+        """The router gets packets for 192.0.2.1 and sends on answers of it, which is no fault where it leads outside."""
 
         def router(number: int, packet: Packet) -> list[tuple[int, Packet]]:
             return [(0, packet._replace(src=packet.dst, dst=packet.src, content=packet.content + 1))]

@@ -38,8 +38,7 @@ def ns(text: str) -> int:
 
 @lru_cache(maxsize=None)
 def late() -> tuple[Path, Path, Path]:
-    """A slow link: moments that go back, packets that are held beyond the last moment, on a link of their own and a
-    shared one."""
+    """A slow link: moments that go back, packets that are held beyond the last moment, on a link of their own and a shared one."""
     config = write(
         "late.config",
         "pipe 1 config bw 1000bit/s delay 7 queue 3Kbytes plr 0.1 mask src-ip 0xff\n"
@@ -145,10 +144,9 @@ class Changed(unittest.TestCase):
     """Histories in which links are changed and deleted between packets."""
 
     def test_random_histories_against_the_reference(self) -> None:
-        """For 60 random histories, the explanation of each packet agrees with the reference emulator. The parts of a delay add
-        up, a packet dropped at a full queue has the same packets ahead, and held packets leave or are discarded in the same
-        way as in a reference that continues.
-        """
+        """For 60 random histories, the explanation of each packet agrees with the reference emulator. The parts of a delay add up,
+        a packet dropped at a full queue has the same packets ahead, and held packets leave or are discarded in the same way as in a
+        reference that continues."""
         kinds: Counter[str] = Counter()
         for seed in range(60):
             rng = Random(seed)

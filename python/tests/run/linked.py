@@ -184,8 +184,7 @@ class Linked:
         self, plan: str, most: int = 10**9, carrier: Optional[str] = None, links: int = 1, descriptors: Sequence[int] = ()
     ) -> None:
         """With the carrier `tun` each packet follows a header. The plan names the additional descriptors, which the process
-        inherits.
-        """
+        inherits."""
         self.folder = tempfile.TemporaryDirectory()
         self.transcript = f"{self.folder.name}/session.history"
         pairs = [socket.socketpair(socket.AF_UNIX, socket.SOCK_SEQPACKET) for _ in range(2 * links)]

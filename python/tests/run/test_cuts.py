@@ -14,8 +14,7 @@ from hinge.run.page import Way
 class OfPlans(unittest.TestCase):
     def obeyed(self, plan: str, end: int = 60_000_000) -> list[str]:
         """Runs two pipes with this plan until `end` ns. Returns the configuration lines that the link applied, without the two
-        lines that created the pipes.
-        """
+        lines that created the pipes."""
         link = Linked("line pipe 1 config delay 5 plr 0.5\nline pipe 2 config\n" + plan + f"at {end} remark end\n")
         until(lambda: link.page.read()["moment"] >= end)
         ended = link.end()
@@ -71,8 +70,7 @@ class OfPlans(unittest.TestCase):
 
     def test_acts_are_writes_in_the_order_of_the_plan(self) -> None:
         """Stops form a set: a stop ends by its own number, and the number 0 ends all stops. A kill freezes the processes
-        meanwhile.
-        """
+        meanwhile."""
         ends = {name: os.pipe() for name in ("freeze", "kill")}
         for end in (one for pair in ends.values() for one in pair):
             self.addCleanup(os.close, end)

@@ -34,9 +34,8 @@ class OfDownloads(Behind):
 
     @needs("curl")
     def test_a_fast_download_comes_as_packets_of_the_link(self) -> None:
-        """The kernel's large segments are cut to packets of the interface's greatest length, in both families, and the content
-        is complete.
-        """
+        """The kernel's large segments are cut to packets of the interface's greatest length, in both families, and the content is
+        complete."""
         data = os.urandom(2 * 10**7)
         (self.folder / "data").write_bytes(data)
         serve = f"cd {self.folder} && exec {sys.executable} -m http.server 8080 --bind :: 2>/dev/null >&2"

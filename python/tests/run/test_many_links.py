@@ -141,7 +141,6 @@ class OfItsClock(unittest.TestCase):
         self.assertEqual((timed, turns < 500), (0, True))
 
     def test_before_all_others_it_polls_before_a_moment(self) -> None:
-        """Without polling, a packet that arrives by itself needs a turn to arrive and a turn to leave. The machine's load
-        decides how many turns are added.
-        """
+        """Without polling, a packet that arrives by itself needs a turn to arrive and a turn to leave. The machine's load decides
+        how many turns are added."""
         self.assertGreater(self.counted("realtime")[2], self.counted()[2])

@@ -50,9 +50,8 @@ class OfRoutes(InAFolder):
         assert done.stderr.splitlines()[0] == "hinge net: c has no way to a: r hands nothing on; write router r"
 
     def test_what_a_router_rightly_doesnt_forward(self) -> None:
-        """No route exists, or the packet is too long and its sender learns this, or the router rejects the packet. A new
-        interface of the router's program forwards too.
-        """
+        """No route exists, or the packet is too long and its sender learns this, or the router rejects the packet. A new interface
+        of the router's program forwards too."""
         done = self.logged(
             "host b\nrouter r ip route add unreachable 10.78.0.0/24; ip tuntap add own mode tun; cat /proc/sys/net/ipv4/conf/own/forwarding; exec sleep 1000\n"
             "main a ip route add 10.77.0.0/24 dev to-r; ping -q -c 3 -i 0.2 -W 1 10.77.0.1; ping -q -c 2 -i 0.2 -W 1 -M do -s 1400 b;"

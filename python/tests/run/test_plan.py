@@ -86,9 +86,7 @@ class OfOptions(OfFiles):
         return plan_of(LiveOptions(**vars(parser.parse_args(words)), more_files=()), 1500)
 
     def test_the_order_of_lines(self) -> None:
-        """Queues can use the pipes of --up and --down, which precede lines that configure the same pipe; unnamed pipes are
-        open.
-        """
+        """Queues can use the pipes of --up and --down, which precede lines that configure the same pipe; unnamed pipes are open."""
         queue, up = "queue 1 config pipe 1 weight 3", "pipe 1 config bw 10Mbit/s"
         self.assertEqual(self.configured("--line", queue, "--up", "10Mbit/s"), [up, queue, "pipe 2 config"])
         file = self.file(f"pipe 1 config delay 3\n{queue}  # of it\n")

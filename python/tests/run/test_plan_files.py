@@ -64,8 +64,7 @@ class Traces(OfFiles):
 
     def test_mahimahi(self) -> None:
         """The plan contains each moment of the trace, or, if requested, counts over bins, of which the last ends with the
-        period.
-        """
+        period."""
         self.assertEqual(self.plan("1\n1\n2\n350\n"), ["slots 1 1 1 2 350"])
         rates = ((0, 360_000), (100, 60_000), (300, 240_000))
         begins = [

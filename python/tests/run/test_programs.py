@@ -27,8 +27,7 @@ def megabits(text: str) -> float:
 class OfTcp(Behind):
     def rate(self, control: str) -> float:
         """Returns the rate through 10 Mbit/s and 2 x 20 ms. 34 packets are under way and 100 may wait, so the link is never
-        idle.
-        """
+        idle."""
         words = ["--up", "10Mbit/s 20ms queue 100", "--down", "20ms", "--server", "iperf3 -s -1 >/dev/null"]
         done = run_in_time(self, *words, "--", *"iperf3 -c server -t 4 -O 1 -J -C".split(), control)
         if "congestion control" in done.stdout or "Congestion" in done.stdout and "error" in done.stdout:
@@ -54,9 +53,8 @@ class OfSsh(Behind):
         return f"{self.folder}/{name}"
 
     def server(self) -> str:
-        """Starts a server on port 2222 for this user only, with separate keys. As root, sshd needs a folder below /run, as in
-        the rooms.
-        """
+        """Starts a server on port 2222 for this user only, with separate keys. As root, sshd needs a folder below /run, as in the
+        rooms."""
         options = {
             "AuthorizedKeysFile": f"{self.key('user')}.pub",
             "StrictModes": "no",
@@ -70,9 +68,8 @@ class OfSsh(Behind):
 
     @unittest.skipIf(os.path.basename(USER.pw_shell) in ("nologin", "false"), "this user may not log in")
     def test_a_login_and_a_file(self) -> None:
-        """100,000 bytes take 0.4 s at 2 Mbit/s, after at least two round trips of 70 ms. The shell prints a text that the
-        client can't know.
-        """
+        """100,000 bytes take 0.4 s at 2 Mbit/s, after at least two round trips of 70 ms. The shell prints a text that the client
+        can't know."""
         with open(f"{self.folder}/data", "wb") as file:
             file.write(os.urandom(10**5))
         serve = self.server()

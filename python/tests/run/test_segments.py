@@ -30,9 +30,7 @@ def summed(data: bytes) -> int:
 
 
 def tcp(ends: bytes, sequence: int, flags: int, data: bytes) -> bytes:
-    """Returns a TCP segment, with the sum to which a card adds the packet's own: of both addresses, the protocol and the
-    length.
-    """
+    """Returns a TCP segment, with the sum to which a card adds the packet's own: of both addresses, the protocol and the length."""
     length = 20 + len(TIMES) + len(data)
     begun = summed(ends + struct.pack("!HH", 6, length))
     return (
@@ -78,9 +76,8 @@ class OfSegments(unittest.TestCase):
         return got, ended.history
 
     def test_each_packet_is_as_a_card_makes_it(self) -> None:
-        """The sequence number and the packet's identification continue, also past their greatest values. Only the last packet
-        has FIN and PUSH, and only the first CWR.
-        """
+        """The sequence number and the packet's identification continue, also past their greatest values. Only the last packet has
+        FIN and PUSH, and only the first CWR."""
         size, sequence, number = 1448, 2**32 - 2000, 2**16 - 2
         for build, kind, headers in ((in_ipv4, TCP4, 56), (in_ipv6, TCP6, 72)):
             for length in (size + 1, 3 * size, 40 * size + 7):
@@ -124,8 +121,7 @@ class OfSegments(unittest.TestCase):
 
     def test_a_flipped_bit_is_behind_a_whole_checksum(self) -> None:
         """The host first completes the card's checksum, or a receiver would believe it. A packet of odd length counts as padded
-        with 0.
-        """
+        with 0."""
         sent = [build(at, ACK, os.urandom(999 + at % 2), at) for at in range(20) for build in (in_ipv4, in_ipv6)]
         link = Linked(f"{SEEDS}line pipe 1 config\ncorruption 0 {2**31} 9\n", carrier="tun")
         for number, packet in enumerate(sent, 1):

@@ -44,8 +44,7 @@ class OfDatagrams(InAFolder):
 
     def test_no_datagram_of_ipv6_is_cut(self) -> None:
         """A link's packet has at most 65,535 bytes with its headers. Longer datagrams are dropped whole and counted, in both
-        directions.
-        """
+        directions."""
         with sockets(2, socket.AF_INET6) as (client, server):
             path = Path("[::1]:0", f"[::1]:{port_of(server)}")
             client.setsockopt(socket.SOL_SOCKET, socket.SO_SNDBUF, 1 << 20)

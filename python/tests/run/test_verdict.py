@@ -113,8 +113,7 @@ class OfIdleEvents(InAFolder):
 
     def test_no_word_is_silently_without_effect(self) -> None:
         """Each word names a host or link that doesn't exist, repeats another at its moment, or ends nothing: the kit refuses or
-        reports it.
-        """
+        reports it."""
         self.NET = f"{self.NET}disk a data\n"
         begun = {"heal": "cut", "restart": "kill", "cont": "stop"}
         of_hosts = [f"{word} a{' +2s' * (word == 'skew')}" for word in WORDS]

@@ -21,8 +21,7 @@ class OfSystems(Simulated):
 
     def test_the_smallest_failure_loses_what_was_acknowledged_shortly_before_the_crash_or_within_the_cut(self) -> None:
         """Redis promotes another node some seconds after the cut at 14.263 s, and SQLite with synchronous=full loses the last
-        commit before the crash at 3.338 s. A run that loses nothing, or an older write, shows another fault.
-        """
+        commit before the crash at 3.338 s. A run that loses nothing, or an older write, shows another fault."""
         for name, earliest, latest in ("redis", 14.2, 14.3 + 5.5), ("sqlite", 3.2, 3.338):
             with self.subTest(name):
                 if name == "redis" and not shutil.which("redis-server"):

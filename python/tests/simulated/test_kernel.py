@@ -1,6 +1,5 @@
-"""The kernel gives time to spinning programs, and what a process learns without a call is repeatable. Each test fails without
-the patch.
-"""
+"""The kernel gives time to spinning programs, and what a process learns without a call is repeatable. Each test fails without the
+patch."""
 
 from machines import Simulated, needs, probe, probed
 
@@ -41,9 +40,7 @@ class OfSpins(Simulated):
         self.assertTrue(5000 <= probed(out)[0] < 6000, out)
 
     def test_one_that_waits_for_a_flag(self) -> None:
-        """The program never calls the kernel, so the machine interrupts it from outside, and a message reports the
-        interruption.
-        """
+        """The program never calls the kernel, so the machine interrupts it from outside, and a message reports the interruption."""
         ran = self.run_by(1, "--", probe(), "flag")
         self.assertEqual((ran.status, ran.out), (0, "flag\n"), ran.err)
         self.assertGreater(ran.summary["interrupts"], 0)
@@ -145,7 +142,6 @@ class OfTheSystem(Simulated):
 
     def test_it_has_run_for_a_while(self) -> None:
         """iputils' ping takes a clock below a second for an unread one, and would send everything at once. Here 3 pings take 2
-        s.
-        """
+        s."""
         ran = self.run_by(1, "--", "ping", "-q", "-c", "3", "server")
         self.assertEqual(round(ran.summary["simulated"]), 2, ran.err)

@@ -201,9 +201,8 @@ class OfFaults(Simulated):
 @needs("iperf3", "ping")
 class OfTheLinks(Simulated):
     def test_flipped_bits_are_the_same_twice(self) -> None:
-        """Receivers discard packets with wrong checksums: a stream arrives whole and some datagrams not at all, through a
-        switch and a router.
-        """
+        """Receivers discard packets with wrong checksums: a stream arrives whole and some datagrams not at all, through a switch
+        and a router."""
         (self.folder / "ends.py").write_text(ENDS)
         done = self.net(CORRUPTED, 3, "--twice")
         self.assertIn("two runs by seed 3 are the same: ", done.stderr)
@@ -218,9 +217,8 @@ class OfTheLinks(Simulated):
         self.assertEqual((looked.returncode, looked.stdout.splitlines()[-1]), (0, "lawful between links"), looked.stdout)
 
     def test_no_program_runs_before_them(self) -> None:
-        """b answers each of two connections, and what c then sends is on the link at once. A Linux feature lets other programs
-        run before one with priority, for 50 ms of each second, and iperf3 would spin for 5 ms before the link.
-        """
+        """b answers each of two connections, and what c then sends is on the link at once. A Linux feature lets other programs run
+        before one with priority, for 50 ms of each second, and iperf3 would spin for 5 ms before the link."""
         self.net(THREE, 1)
         packets = packets_of((self.folder / "session" / "net.history").read_text())
         own = [packet.came for packet in packets if packet.target == ("pipe", 5)]
@@ -232,9 +230,8 @@ class OfTheLinks(Simulated):
 
 class OfClocks(Simulated):
     def test_one_that_is_ahead_and_gains(self) -> None:
-        """With this clock the program reads the time of day and packets' time stamps, and waits for a moment in every way that
-        the kernel offers. The other host's clock is unchanged.
-        """
+        """With this clock the program reads the time of day and packets' time stamps, and waits for a moment in every way that the
+        kernel offers. The other host's clock is unchanged."""
         (self.folder / "looks.py").write_text(LOOKS)
         done = self.net(CLOCKS, 1, "--logs", "logs")
         for name, first, length in (("m", "5.001 0.0", "1.998"), ("o", "0.0 0.0", "2.0")):

@@ -77,8 +77,7 @@ class OfPauses(Simulated):
     @needs("bash", "cc")
     def test_drawn_pauses_find_faults(self) -> None:
         """The faults: two processes create one file, jobs without a lock, and a signal whose handler runs before the call that
-        waits for the signal.
-        """
+        waits for the signal."""
         wakes = str(self.folder / self.compiled((HERE / "wakes.c").read_text()))
         for words in (["bash", "-c", ONCE], [sys.executable, "-c", JOBS], [wakes]):
             self.assertEqual(self.run_by(1, "--", *words).status, 0, words)

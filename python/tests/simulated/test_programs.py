@@ -81,9 +81,8 @@ class OfServers(Repeated):
 
     @needs("chromium")
     def test_chromium(self) -> None:
-        """A browser loads a page, runs its script and ends, although one of its processes waits in the kernel for another
-        process without a tick to wake it.
-        """
+        """A browser loads a page, runs its script and ends, although one of its processes waits in the kernel for another process
+        without a tick to wake it."""
         self.script("index.html", PAGE)
         browses = ["chromium", "--headless", "--no-sandbox", "--disable-gpu", "--dump-dom", "http://server:8000/"]
         serves = f"exec {sys.executable} -m http.server 8000 -d {self.folder} >/dev/null 2>&1"

@@ -76,9 +76,8 @@ class OfTwice(Repeated):
     @needs("cc", "ping")
     def test_two_that_part(self) -> None:
         """With --cpu host nothing hides the processor's random numbers. The program draws one, prints a word, and sends three
-        packets of drawn lengths, all equal in two runs once in 2^30; so the transcripts part at a packet's submission. A
-        word keeps 60 bits, since a shell reads all numbers above 2^63 as the greatest one.
-        """
+        packets of drawn lengths, all equal in two runs once in 2^30; so the transcripts part at a packet's submission. A word keeps
+        60 bits, since a shell reads all numbers above 2^63 as the greatest one."""
         self.compiled(DRAWS)
         done = self.two_of(PINGS_OF_DRAWN_LENGTHS, "--cpu", "host")
         self.assertEqual(done.returncode, 76, done.stdout + done.stderr)

@@ -86,9 +86,8 @@ class OfCases(unittest.TestCase):
         self.assertEqual(done.returncode, 128 + signal.SIGHUP, done.stderr)
 
     def test_a_net_beside_another_file(self) -> None:
-        """The next run of a text removes the file that a killed run left, two simultaneous runs share a file, and a user's own
-        file stays.
-        """
+        """The next run of a text removes the file that a killed run left, two simultaneous runs share a file, and a user's own file
+        stays."""
         with TemporaryDirectory() as folder:
             with file_beside(Path(folder, "x"), NET) as net:
                 with file_beside(Path(folder, "y"), NET) as other:
@@ -150,8 +149,7 @@ class OfCases(unittest.TestCase):
 
     def test_calls_around_a_pause(self) -> None:
         """The report lists three earlier calls, three calls by other threads at the pause's start and end, and three later
-        calls.
-        """
+        calls."""
         rows = [
             CallRow(1000 + n, 1000 + n, 7, 7 + (n == 5 or n == 20), {5: PAUSES, 20: GOES_ON}.get(n, 39), 39, n, "it")
             for n in range(30)

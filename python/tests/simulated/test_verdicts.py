@@ -116,8 +116,7 @@ class OfVerdicts(Simulated):
 
     def test_pauses_between_calls(self) -> None:
         """A sum without a lock and without a call becomes wrong only by a pause in the loop, and the same pause makes it wrong
-        again.
-        """
+        again."""
         words = ("--", self.compiled(ADDS))
         self.assertEqual(self.ended(*words)[0], 0)
         calls = range(1, 40)
@@ -144,8 +143,7 @@ class OfVerdicts(Simulated):
 
     def test_a_file_that_differs_is_named(self) -> None:
         """The files: one that the run read, one that it looked for in vain, a folder whose names it read, and one that it then
-        changed.
-        """
+        changed."""
         words = ("--", "sh", "-c", "cat data; cat more; ls other; cat log; echo >> log")
         (self.folder / "log").touch()
         (self.folder / "other").mkdir()
