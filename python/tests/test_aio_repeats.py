@@ -6,16 +6,15 @@ import os
 import socket
 import subprocess
 import sys
-import tempfile
 import threading
 import time
-import unittest
 from pathlib import Path
 
 from hinge.loss import GilbertElliott
 from hingetulip import RangeError, aio
 from hingetulip.aio.drawn import Drawn
 from simulated_hosts import Ends, exchange, network, opened
+from with_folder import WithFolder
 
 RUN = """
 import sys
@@ -55,7 +54,7 @@ def text_of_run(folder: str, hash_seed: str) -> str:
     return history.read_text()
 
 
-class Repeats(unittest.TestCase):
+class Repeats(WithFolder):
     def test_an_hour_takes_no_time_and_repeats(self) -> None:
         began, found = time.monotonic(), []
         for seed in (1, 1, 2):
@@ -66,8 +65,7 @@ class Repeats(unittest.TestCase):
         self.assertLess(time.monotonic() - began, 3600)
 
     def test_histories_of_processes_are_equal_under_any_hash_seed(self) -> None:
-        with tempfile.TemporaryDirectory() as folder:
-            found = {text_of_run(folder, hash_seed) for hash_seed in ("0", "1", "2", "77")}
+        found = {text_of_run(self.folder, hash_seed) for hash_seed in ("0", "1", "2", "77")}
         self.assertEqual(len(found), 1)
 
     def test_sets_of_tasks_have_one_order(self) -> None:

@@ -150,13 +150,6 @@ class Calls(unittest.TestCase):
             self.shaper.configure(line)
         self.assertEqual([Outcome.QUEUED] * 3, [self.shaper.submit(0, 1, pipe=pipe).outcome for pipe in (2, 3, 4)])
 
-
-class Batches(unittest.TestCase):
-    def setUp(self) -> None:
-        self.shaper = Shaper()
-        self.addCleanup(self.shaper.close)
-        self.shaper.configure(LINE)
-
     def test_columns(self) -> None:
         packets = Packets(3, moment=array("Q", [0, 0, MS]), length=1000, pipe=1, word=0)
         fates = self.shaper.submit_many(packets)

@@ -8,8 +8,8 @@ from pathlib import Path
 import hingetulip
 from hingetulip import audits, errors, layout, library
 from reference import NAME_OF
+from simulated_hosts import TOP
 
-TOP = Path(__file__).resolve().parents[2]
 INCLUDE = TOP / "crates" / "hingetulip_c" / "include"
 HEADER, SERVICE_HEADER = ((INCLUDE / f"{name}.h").read_text() for name in ("hingetulip", "hingetulip_service"))
 RUST, RUST_SERVICE, RUST_ERRORS = (

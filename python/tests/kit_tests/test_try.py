@@ -4,20 +4,18 @@ import importlib
 import re
 import subprocess
 import sys
-import tempfile
-import unittest
-from pathlib import Path
 
 from hingetulip import audit
 from hingetulip_words.presets import PRESETS, preset
 from kit import TOP, folder, run
+from with_folder import WithFolder
 
 TRY = importlib.import_module("hinge.commands.try")
 START = TOP / "python" / "hinge" / "__main__.py"
 TIME = re.compile(r"(?<=The answer took )[\d.]+")
 
 
-class Try(unittest.TestCase):
+class Try(WithFolder):
     def test_a_picture_a_paragraph_and_what_comes_next(self) -> None:
         done = run("try")
         self.assertEqual((done.returncode, done.stderr), (0, ""))
@@ -39,9 +37,9 @@ class Try(unittest.TestCase):
 
     def test_each_preset_carries_all_segments(self) -> None:
         for name in PRESETS:
-            with self.subTest(name), tempfile.TemporaryDirectory() as place:
+            with self.subTest(name):
                 link = preset(name)
-                transfer = TRY.Download(Path(place) / "history", (link.up, link.down))
+                transfer = TRY.Download(self.folder / "history", (link.up, link.down))
                 transfer.run()
                 self.assertEqual(set(transfer.came), set(range(TRY.SEGMENTS)))
 

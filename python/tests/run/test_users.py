@@ -5,10 +5,9 @@ import shutil
 import subprocess
 import sys
 import tempfile
-import unittest
-from pathlib import Path
 
 from linked import HINGE, needs, needs_mounts, needs_rooms
+from with_folder import WithFolder
 
 from hinge.run.users import Subordinate, mapping, subordinate
 
@@ -28,7 +27,7 @@ OPENS = (
 )
 
 
-class OfMaps(unittest.TestCase):
+class OfMaps(WithFolder):
     def test_an_id_is_itself_and_the_others_are_subordinate(self) -> None:
         self.assertEqual(" ".join(mapping(1000, Subordinate(100000, 65536))), "0 100000 1000 1000 1000 1 1001 101000 64536")
         self.assertEqual(" ".join(mapping(0, Subordinate(7, 5))), "0 0 1 1 7 5")
@@ -36,19 +35,18 @@ class OfMaps(unittest.TestCase):
         self.assertEqual(" ".join(mapping(5, Subordinate(200000, 5))), "0 200000 5 5 5 1")
 
     def test_what_a_file_gives_to_a_user(self) -> None:
-        with tempfile.TemporaryDirectory() as folder:
-            path = Path(folder, "subuid")
-            path.write_text("other:1:2\nroot:3:x\nroot:300000:65536\n# none\n4321:7:8\n")
-            self.assertEqual(
-                [subordinate(str(path), user) for user in (0, 4321, 999999)], [Subordinate(300000, 65536), Subordinate(7, 8), None]
-            )
-            self.assertIsNone(subordinate(f"{folder}/none", 0))
+        path = self.folder / "subuid"
+        path.write_text("other:1:2\nroot:3:x\nroot:300000:65536\n# none\n4321:7:8\n")
+        self.assertEqual(
+            [subordinate(str(path), user) for user in (0, 4321, 999999)], [Subordinate(300000, 65536), Subordinate(7, 8), None]
+        )
+        self.assertIsNone(subordinate(f"{self.folder}/none", 0))
 
 
 @needs_rooms
 @needs_mounts
 @needs("newuidmap", "newgidmap")
-class OfUsers(unittest.TestCase):
+class OfUsers(WithFolder):
     def as_a_user(self, given: str, *words: str) -> "subprocess.CompletedProcess[str]":
         with tempfile.NamedTemporaryFile("w") as file:
             file.write(given)
@@ -84,12 +82,11 @@ class OfUsers(unittest.TestCase):
         self.assertEqual((done.returncode, done.stdout.split()), (0, ["65534", "65534", "1"]), done.stderr)
 
     def test_hosts_of_a_net(self) -> None:
-        with tempfile.TemporaryDirectory() as folder:
-            os.chmod(folder, 0o777)
-            net = Path(folder, "x.net")
-            net.write_text(
-                f"host a {OPENS} >{folder}/told; exec sleep 100\nmain b until [ -s {folder}/told ]; do sleep 0.05;"
-                " done\nlink a b\n"
-            )
-            done = self.as_a_user("65534:200000:65536\n", *HINGE, "net", str(net), "--quiet")
-            self.assertEqual(Path(folder, "told").read_text(), "True\n", done.stderr)
+        os.chmod(self.folder, 0o777)
+        net = self.folder / "x.net"
+        net.write_text(
+            f"host a {OPENS} >{self.folder}/told; exec sleep 100\nmain b until [ -s {self.folder}/told ]; do sleep 0.05;"
+            " done\nlink a b\n"
+        )
+        done = self.as_a_user("65534:200000:65536\n", *HINGE, "net", str(net), "--quiet")
+        self.assertEqual((self.folder / "told").read_text(), "True\n", done.stderr)
