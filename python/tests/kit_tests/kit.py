@@ -39,6 +39,18 @@ def run(command: str, *words: object, **more: object) -> subprocess.CompletedPro
     )
 
 
+def recorded(name: str, config: Path, packets: Path) -> str:
+    """The history that the program writes of a replay."""
+    path = folder() / f"{name}.history"
+    subprocess.run([dummynet(), "replay", config, packets, "--history", path], stdout=subprocess.DEVNULL, check=True)
+    return str(path)
+
+
+def live(lines: list[str]) -> str:
+    """The transcript of a session with these lines."""
+    return subprocess.run([dummynet(), "live"], input="\n".join(lines) + "\n", capture_output=True, text=True, check=True).stdout
+
+
 def replay(name: str, config: Path, packets: Path) -> Path:
     """The report that the program writes."""
     report = folder() / f"{name}.report"
@@ -59,6 +71,11 @@ def mixed(name: str) -> tuple[Path, Path, Path]:
     done = run("packets", MIXED, "-o", packets, "--mtu", 1500, "--index", folder() / f"{name}.index", *maps)
     assert done.returncode == 0, done.stderr
     return config, packets, replay(name, config, packets)
+
+
+def history_of(name: str) -> str:
+    config, packets, _ = mixed(name)
+    return recorded(name, config, packets)
 
 
 def parts_of(config: Path, packets: Path, report: Path) -> Parts:

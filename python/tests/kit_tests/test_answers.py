@@ -1,13 +1,13 @@
-"""If a program is killed before, in or after its answer, or can't continue, the kit treats the answer as missing."""
+"""If a program is killed before, in or after its answer, or can't continue, the kit treats the answer as missing. Whatever fails in a
+command, its top reports the failure with a separate status, and in a line if writable."""
 
 import os
 import subprocess
 import unittest
 from pathlib import Path
 
-from kit import MIXED, folder, write
-
 from hinge.program import HINGE, dummynet, packets
+from kit import MIXED, folder, write
 
 CONFIG = "pipe 1 config bw 8Mbit/s\n"
 ROWS = "moment,target,number,src,dst,proto,sport,dport,len,word\n0,pipe,1,1.1.1.1,2.2.2.2,17,1,2,1000,0\n"
@@ -64,3 +64,37 @@ class OfPrograms(unittest.TestCase):
                 with self.subTest(end=end, words=words):
                     message = self.told("HINGE_PACKETS", packets(), end, words)
                     self.assertEqual(message, f"hinge {words[0]}: hinge-packets was ended by SIGKILL\n")
+
+
+WRITING = (
+    ["help"],
+    [],
+    ["nonsense"],
+    ["check", "good"],
+    ["check", "bad"],
+    ["status", "nosuch"],
+    ["why"],
+    ["packets", MIXED, "-o", "streams.csv"],
+    ["run", "--quiet", "--server", "true", "--", "true"],
+)
+
+
+class OfStreams(unittest.TestCase):
+    def status(self, words: list[object], ends: str) -> tuple[int, str]:
+        script = f'exec 3>&2; {{ "$@"; }} {ends}; echo $?  >&3'
+        done = subprocess.run(["sh", "-c", script, "sh", *HINGE, *map(str, words)], capture_output=True, text=True, cwd=folder())
+        *told, status = done.stderr.splitlines()
+        return int(status), "\n".join(told)
+
+    def test_what_cannot_be_written_is_no_silent_fault(self) -> None:
+        write("good", "pipe 1 config\n"), write("bad", "pipe 1 confg\n")
+        for words in WRITING:
+            usual, _ = self.status(words, ">/dev/null 2>/dev/null")
+            for ends in (">/dev/full", "2>/dev/full", ">/dev/full 2>&1"):
+                with self.subTest(words=words, ends=ends):
+                    status, told = self.status(words, ends)
+                    self.assertIn(status, {usual, 6}, told)
+                    self.assertNotIn("Traceback", told)
+                    self.assertNotEqual(status, 120)
+            closed, _ = self.status(words, ">&- 2>&-")
+            self.assertEqual(closed, usual, words)

@@ -36,14 +36,13 @@ class Progress(unittest.TestCase):
             progress.done()
         return terminal.getvalue()
 
-    def test_it_begins_after_two_seconds_and_goes_on_each_half(self) -> None:
-        self.assertEqual(self.told([1.9, 2.1, 2.2, 2.7], Terminal()), f"{CLEARED}rows: 2,000{CLEARED}rows: 4,000{CLEARED}")
-
-    def test_a_short_command_tells_nothing(self) -> None:
-        self.assertEqual(self.told([0.5, 1.9], Terminal()), "")
-
-    def test_elsewhere_than_on_a_terminal_it_tells_nothing(self) -> None:
-        self.assertEqual(self.told([2.1, 9.0], io.StringIO()), "")
+    def test_it_begins_on_a_terminal_after_two_seconds_and_goes_on_each_half(self) -> None:
+        for moments, terminal, told in (
+            ([1.9, 2.1, 2.2, 2.7], Terminal(), f"{CLEARED}rows: 2,000{CLEARED}rows: 4,000{CLEARED}"),
+            ([0.5, 1.9], Terminal(), ""),
+            ([2.1, 9.0], io.StringIO(), ""),
+        ):
+            self.assertEqual(self.told(moments, terminal), told)
 
 
 class Steps(unittest.TestCase):
@@ -67,14 +66,10 @@ class Working(unittest.TestCase):
                     command.time.sleep(0.005)
         return terminal.getvalue()
 
-    def test_what_takes_long_is_told_and_taken_away(self) -> None:
-        self.assertEqual(self.told(Terminal(), 0.01), f"{CLEARED}reading ..{CLEARED}")
-
-    def test_what_is_soon_done_is_not_told(self) -> None:
-        self.assertEqual(self.told(Terminal(), 60), CLEARED)
-
-    def test_elsewhere_than_on_a_terminal_nothing_is_told(self) -> None:
-        self.assertEqual(self.told(io.StringIO(), 0.0), "")
+    def test_what_takes_long_on_a_terminal_is_told_and_taken_away(self) -> None:
+        long = f"{CLEARED}reading ..{CLEARED}"
+        for terminal, after, told in ((Terminal(), 0.01, long), (Terminal(), 60, CLEARED), (io.StringIO(), 0.0, "")):
+            self.assertEqual(self.told(terminal, after), told)
 
 
 class Ends(unittest.TestCase):

@@ -1,23 +1,26 @@
-"""`hinge` itself: help and version, a word that is no command, and the programs that it accepts."""
+"""`hinge` itself: help and version, a word that is no command, the programs that it accepts, the completion of its command line, typed
+in a terminal of bash and of zsh, and hinge doctor: each line says yes, or no with why, and the last one installs what is missing."""
 
 import contextlib
 import importlib
 import io
 import os
+import pty
 import re
 import shutil
 import subprocess
 import sys
-import tempfile
 import unittest
 from pathlib import Path
 from unittest import mock
 
 import hinge
-from kit import TOP, run, write
-
 from hinge import command as frame
 from hinge.__main__ import COMMANDS
+from hinge.commands import doctor
+from hinge.commands.doctor import TRIALS, Finding, first_words, install, line_of, modules, outside, users
+from kit import MIXED, TOP, folder, run, write
+from with_folder import WithFolder
 
 PACKAGE = Path(hinge.__file__).resolve().parent
 TELLS = "from hinge import program, version; print(version.version(), program.dummynet())"
@@ -122,20 +125,19 @@ class Help(unittest.TestCase):
         self.assertEqual((run("--version").stdout, run("-V").stdout), (f"hinge {version}",) * 2)
 
 
-class Programs(unittest.TestCase):
+class Programs(WithFolder):
     """A package installed in a separate prefix, without a clone around it."""
 
     def setUp(self) -> None:
-        place = tempfile.TemporaryDirectory()
-        self.addCleanup(place.cleanup)
-        self.prefix, self.other = Path(place.name) / "prefix", Path(place.name) / "other"
+        super().setUp()
+        self.prefix, self.other = self.folder / "prefix", self.folder / "other"
         modules = self.prefix / "lib" / "python"
         shutil.copytree(PACKAGE, modules / "hinge", ignore=shutil.ignore_patterns("__pycache__"))
         (modules / "hinge" / "VERSION").write_text("9.8.7\n")
-        for folder in (self.prefix / "bin", self.other):
-            folder.mkdir()
-            (folder / "dummynet").write_text("#!/bin/sh\n")
-            (folder / "dummynet").chmod(0o755)
+        for place in (self.prefix / "bin", self.other):
+            place.mkdir()
+            (place / "dummynet").write_text("#!/bin/sh\n")
+            (place / "dummynet").chmod(0o755)
         self.env = {
             **{name: value for name, value in os.environ.items() if name != "DUMMYNET"},
             "PYTHONPATH": str(modules),
@@ -158,3 +160,77 @@ class Programs(unittest.TestCase):
         self.assertEqual(self.told(DUMMYNET=f"{self.other}/dummynet"), f"9.8.7 {self.other}/dummynet\n")
         told = self.told(DUMMYNET=str(self.other))
         self.assertTrue(told.endswith(f"DUMMYNET names {self.other}, which isn't a program"))
+
+
+COMPLETION = TOP / "tools" / "release" / "hinge-completion.bash"
+LOADED = {"bash": ". ./hinge-completion.bash", "zsh": "fpath=($PWD $fpath); autoload -Uz compinit; compinit -D -u"}
+QUIET = {"bash": ["--norc", "--noprofile", "-i"], "zsh": ["-f", "-i"]}
+TYPED = {
+    "hinge ru": "hinge run x",
+    "hinge help doct": "hinge help doctor x",
+    "hinge run --preset 3": "hinge run --preset 3g x",
+    "hinge run --simul": "hinge run --simulated x",
+    "hinge docs EMB": "hinge docs EMBEDDING x",
+    "hinge status two": "hinge status twohosts x",
+    "hinge exec twohosts ro": "hinge exec twohosts router x",
+    "hinge change twohosts rest": "hinge change twohosts restart x",
+    "hinge look mixed": "hinge look mixed.pcap x",
+}
+HINGE = f"""#!/bin/sh
+[ "$1" != status ] || {{ printf ' "from": "router",\\n "to": "other"\\n'; exit; }}
+exec {TOP}/hinge "$@"
+"""
+
+
+def typed(shell: str, place: Path) -> list[str]:
+    """Returns each line's completion after a tab and an x; the keys for the line's begin and end then put it behind `echo`."""
+    (place / "run" / "hinge" / "twohosts").mkdir(parents=True)
+    for file, name in ((MIXED, MIXED.name), (COMPLETION.with_suffix(".zsh"), "_hinge"), (COMPLETION, COMPLETION.name)):
+        shutil.copy(file, place / name)
+    (place / "hinge").write_text(HINGE)
+    (place / "hinge").chmod(0o755)
+    keyboard, line = pty.openpty()
+    env = {**os.environ, "TERM": "dumb", "PATH": f"{place}:{os.environ['PATH']}", "XDG_RUNTIME_DIR": str(place / "run")}
+    with subprocess.Popen([shell, *QUIET[shell]], stdin=line, stdout=line, stderr=line, cwd=place, env=env):
+        os.close(line)
+        keys = "".join(f"{text}\tx\x01echo '\x05' >>typed\n" for text in TYPED)
+        os.write(keyboard, f"{LOADED[shell]}\n{keys}exit\n".encode())
+        with contextlib.suppress(OSError):  # when the shell has ended
+            while os.read(keyboard, 4096):
+                pass
+    os.close(keyboard)
+    return (place / "typed").read_text().splitlines()
+
+
+class Completion(unittest.TestCase):
+    def test_words_files_and_names_in_a_terminal(self) -> None:
+        for shell in filter(shutil.which, QUIET):
+            self.assertEqual(typed(shell, folder() / shell), list(TYPED.values()), shell)
+
+
+class Doctor(unittest.TestCase):
+    def test_each_trial_has_its_line(self) -> None:
+        done = run("doctor")
+        lines = done.stdout.splitlines()[: len(TRIALS)]
+        self.assertEqual([*TRIALS], [line[5 : 5 + len(what)] for line, what in zip(lines, TRIALS)])
+        self.assertLessEqual({line[:5] for line in lines}, {"yes  ", "no   "})
+        works = f"yes  {[*TRIALS][1]}" in lines
+        self.assertEqual(done.returncode, 0 if works else 7, done.stdout + done.stderr)
+
+    def test_what_is_missing_is_named_with_its_package(self) -> None:
+        with mock.patch.dict(os.environ, {"PATH": "/nonexistent"}):
+            self.assertEqual(
+                first_words(), Finding("there is no ping and no git and no redis-server", ("iputils-ping", "git", "redis-server"))
+            )
+            self.assertEqual(outside(), Finding("there is neither slirp4netns nor pasta", ("slirp4netns",)))
+            with mock.patch.object(os, "geteuid", lambda: 1000):
+                self.assertEqual(users(), Finding("there is no newuidmap", ("uidmap",)))
+        lacking = modules(no_such_module="python3-none")
+        self.assertEqual(lacking, Finding("Python lacks no_such_module", ("python3-none",)))
+        self.assertEqual(line_of("x", lacking), "no   x: Python lacks no_such_module")
+        self.assertEqual(line_of("x", Finding()), "yes  x")
+        self.assertEqual(install(["a", "b", "a"]), "sudo apt-get install a b")
+        self.assertIsNone(install([]))
+
+    def test_a_run_that_fails_says_why(self) -> None:
+        self.assertEqual(doctor.of_run("--net", "nonsense").why.partition(":")[0], "--net nonsense")

@@ -11,8 +11,7 @@ from unittest.mock import patch
 from hinge.program import dummynet
 from hinge.replays.history import read_history
 from hinge.replays.replay import NONE, OUT, Replay, read_packets, read_report
-from kit import TOP, folder, mixed, needs_tshark, run, write
-from looked import history_of, live
+from kit import TOP, folder, history_of, live, mixed, needs_tshark, run, write
 
 SUBMIT = "c,0,submit,pipe,1,10.0.0.1,10.0.0.2,17,1,2,1000,0,"
 

@@ -15,7 +15,12 @@ from random_frames import Frames
 from tshark_frames import frames_by_kit, frames_by_tshark
 
 from hinge.command import Fault
-from packets_told import edited
+
+
+def edited(name: str, capture: Path, *words: str) -> Path:
+    """What editcap makes of a capture."""
+    subprocess.run(["editcap", *words, str(capture), str(folder() / name)], check=True, capture_output=True)
+    return folder() / name
 
 
 def every_capture() -> list[Path]:

@@ -9,8 +9,7 @@ from base64 import b64decode
 from typing import Any
 
 import numpy as np
-from kit import folder, mixed, needs_tshark, parts_of, rows_of, run, write
-from looked import live
+from kit import folder, live, mixed, needs_tshark, parts_of, rows_of, run, write
 
 from hinge.pictures.drawn import of_run
 from hinge.pictures.html_page import HtmlPage, outline, teller

@@ -2,17 +2,15 @@
 
 import csv
 import io
-import subprocess
 import unittest
 from typing import Optional, Union
 
 import numpy as np
-from kit import folder, mixed, needs_tshark, replay, rows_of, run, write
+from kit import mixed, needs_tshark, recorded, replay, rows_of, run, write
 
 from hinge.captures.packet_rows import HEADER
 from hinge.lazy import Integers
 from hinge.pictures.figures import exact_sum, jitter, jitter_after, mean, percentiles
-from hinge.program import dummynet
 from hinge.replays.units import packets, rows
 
 
@@ -79,8 +77,7 @@ class ByHand(unittest.TestCase):
             "lost.csv", HEADER + "\n" + "".join(f"{moment},pipe,7,10.0.0.1,10.0.0.2,17,1,2,1000,0\n" for moment in (0, 1000))
         )
         spelled = write("lost1.config", "pipe 1 config bw 8Mbit/s\n")
-        report, history = replay("lost", spelled, packets), folder() / "lost.history"
-        subprocess.run([dummynet(), "replay", spelled, packets, "--history", history], stdout=subprocess.DEVNULL, check=True)
+        report, history = replay("lost", spelled, packets), recorded("lost", spelled, packets)
         for words in (("look", packets, report), ("look", packets, report, "-o", "lost.png"), ("look", history)):
             done = run(*words)
             told = (

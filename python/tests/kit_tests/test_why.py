@@ -9,12 +9,11 @@ from functools import lru_cache
 from pathlib import Path
 from random import Random
 
-from kit import folder, mixed, needs_tshark, parts_of, replay, run, rows_of, write
+from kit import folder, live, mixed, needs_tshark, parts_of, replay, rows_of, run, write
 
 from hinge.captures.packet_rows import HEADER
 from hinge.replays.explain import Explainer
 from hinge.replays.links import Parts
-from looked import live
 from oracle import STYLES, FastDummynet, call_text, configured, random_calls, reply_lines
 from hinge.captures.random_words import word
 from hinge.replays.history import read_history
