@@ -90,33 +90,33 @@ def sources(module: ModuleType, pattern: str = "[a-z]") -> set[str]:
 class Sources(unittest.TestCase):
     def test_clocks(self) -> None:
         found = answers(listed(WALL) + listed(GROWING), 1, "1")
-        self.assertEqual({text: 86_410.25 for text in listed(WALL)}, {text: float(found[text]) for text in listed(WALL)})
-        self.assertEqual({text: 10.25 for text in listed(GROWING)}, {text: float(found[text]) for text in listed(GROWING)})
+        assert {text: 86_410.25 for text in listed(WALL)} == {text: float(found[text]) for text in listed(WALL)}
+        assert {text: 10.25 for text in listed(GROWING)} == {text: float(found[text]) for text in listed(GROWING)}
 
     @unittest.skipIf(LIBRARY is None, "no hinge-clock.so")
     def test_numbers_and_names(self) -> None:
         texts = listed(SEED) + listed(OF_NUMPY) * (importlib.util.find_spec("numpy") is not None)
         first, again, other = answers(texts, 3, "1"), answers(texts, 3, "77"), answers(texts, 4, "1")
-        self.assertEqual(first, again)
-        self.assertEqual([], [text for text in texts if first[text] == other[text]])
+        assert first == again
+        assert [] == [text for text in texts if first[text] == other[text]]
 
     def test_no_source_is_missing(self) -> None:
         known = {*PURE.split(), *LIMITS, *re.findall(r"\b(?:time|random|secrets|uuid|os)\.\w+", f"{WALL} {GROWING} {SEED}")}
         all_of = sources(time) | sources(secrets) | sources(uuid, "^(?!os$|sys$)") | sources(os, "rand|time|clock")
-        self.assertEqual(set(), all_of - known)
+        assert set() == all_of - known
         unbound = {name for name in sources(random) if name.rpartition(".")[2] in random.__all__}
-        self.assertEqual({"random.Random", "random.SystemRandom"}, unbound)
+        assert {"random.Random", "random.SystemRandom"} == unbound
         now = {
             f"{kind}.{name}"
             for kind in ("date", "datetime")
             for name in ("today", "now", "utcnow")
             if hasattr(getattr(datetime, kind), name)
         }
-        self.assertEqual(set(), {name for name in now if f"datetime.{name}(" not in WALL})
+        assert set() == {name for name in now if f"datetime.{name}(" not in WALL}
 
     def test_the_page_names_the_limits(self) -> None:
         page = " ".join((TOP / "docs" / "TESTING.md").read_text(encoding="utf-8").split())
-        self.assertEqual([], [name for name in LIMITS.values() if name not in page])
+        assert [] == [name for name in LIMITS.values() if name not in page]
 
 
 ASKED = """
@@ -160,10 +160,8 @@ class WithClock(WithFolder):
         asked = [sys.executable, TOP / "python" / "hinge" / "__main__.py", "kernel", "--clock"]
         clock = subprocess.run(asked, env=env, stdout=subprocess.PIPE, text=True, check=True).stdout.strip()
         done = subprocess.run([sys.executable, "-c", ASKED], env={**env, "LD_PRELOAD": clock}, capture_output=True, text=True)
-        self.assertEqual(done.stderr, "")
-        self.assertEqual(
-            done.stdout.splitlines(), ["(1700000090000001000, 90000001000, 1700000090000001, 1700000090, True)", "True True"]
-        )
+        assert done.stderr == ""
+        assert done.stdout.splitlines() == ["(1700000090000001000, 90000001000, 1700000090000001, 1700000090, True)", "True True"]
 
 
 @unittest.skipIf(LIBRARY is None or importlib.util.find_spec("OpenSSL") is None, "no hinge-clock.so or no python3-openssl")
@@ -188,4 +186,4 @@ class ClockOfOpenSSL(unittest.TestCase):
             await asyncio.sleep(0.75)
             return [first, left(asker)]
 
-        self.assertEqual([1.0, 0.25], aio.run(main()))
+        assert [1.0, 0.25] == aio.run(main())

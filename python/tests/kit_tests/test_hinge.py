@@ -36,7 +36,7 @@ class Help(unittest.TestCase):
                 "from hinge.__main__ import main; main()"
             )
             told = subprocess.run([sys.executable, "-c", script], capture_output=True, text=True)
-            self.assertEqual((told.returncode, told.stdout.splitlines()[-1], told.stderr), (0, "[]", ""), command)
+            assert (told.returncode, told.stdout.splitlines()[-1], told.stderr) == (0, "[]", ""), command
 
     def test_standard_input_is_a_file(self) -> None:
         packets = write(
@@ -44,69 +44,67 @@ class Help(unittest.TestCase):
         )
         report = write("in.report", "event,row,flow,packet,at,start,due\nout,1,0,0,0,0,5\n")
         plain = run("look", packets, report).stdout
-        self.assertIn("udp 10.0.0.1:1 > 10.0.0.2:2", plain)
-        self.assertEqual(run("look", packets, "-", input=report.read_text()).stdout, plain)
-        self.assertEqual(run("look", "-", report, input=packets.read_text()).stdout, plain)
+        assert "udp 10.0.0.1:1 > 10.0.0.2:2" in plain
+        assert run("look", packets, "-", input=report.read_text()).stdout == plain
+        assert run("look", "-", report, input=packets.read_text()).stdout == plain
 
     def test_help_lists_the_commands(self) -> None:
         told = run("help")
-        self.assertEqual((told.returncode, told.stderr), (0, ""))
-        self.assertIn("\n  packets     a capture as a packet file\n", told.stdout)
-        self.assertEqual(told.stdout, run("--help").stdout)
+        assert (told.returncode, told.stderr) == (0, "")
+        assert "\n  packets     a capture as a packet file\n" in told.stdout
+        assert told.stdout == run("--help").stdout
 
     def test_each_help_fits_a_terminal_and_ends_with_an_example_and_the_statuses(self) -> None:
-        self.assertEqual(len(COMMANDS), 18)
+        assert len(COMMANDS) == 18
         for name in COMMANDS:
             out, words = io.StringIO(), {"argv": ["hinge", "--help"]}
             with mock.patch.multiple(sys, **words), mock.patch.dict(os.environ, COLUMNS="80"), contextlib.redirect_stdout(out):
                 with self.assertRaises(SystemExit) as end, mock.patch.object(frame, "NAME", [f"hinge {name}"]):
                     importlib.import_module(f"hinge.commands.{name}").main()
             text = out.getvalue()
-            self.assertEqual(end.exception.code, 0, name)
-            self.assertEqual([line for line in text.splitlines() if len(line) > 80], [], name)
+            assert end.exception.code == 0, name
+            assert [line for line in text.splitlines() if len(line) > 80] == [], name
             *_, example, statuses = text.strip().split("\n\n")
-            self.assertRegex(example, rf"^example:\n  (sudo .*&& )?hinge {name}\b|^example:\n(.*\n)*  hinge {name}\b", name)
-            self.assertTrue(statuses.startswith("exit status: "), name)
+            assert re.search(rf"^example:\n  (sudo .*&& )?hinge {name}\b|^example:\n(.*\n)*  hinge {name}\b", example), name
+            assert statuses.startswith("exit status: "), name
 
     def test_help_of_a_command_is_its_own(self) -> None:
-        self.assertEqual(run("help", "why").stdout, run("why", "--help").stdout)
+        assert run("help", "why").stdout == run("why", "--help").stdout
 
     def test_the_pages_are_named_and_shown(self) -> None:
         pages = {page.stem: page.read_text(encoding="utf-8") for page in sorted((TOP / "docs").glob("*.md"))}
         told = run("docs")
-        self.assertEqual((told.returncode, told.stderr), (0, ""))
+        assert (told.returncode, told.stderr) == (0, "")
         for name, text in pages.items():
-            self.assertRegex(told.stdout, f"(?m)^  {name} +{re.escape(text.splitlines()[0][2:])}$")
+            assert re.search(f"(?m)^  {name} +{re.escape(text.splitlines()[0][2:])}$", told.stdout)
         for asked in ("LIVE", "live", "docs/LIVE.md"):
-            self.assertEqual(run("docs", asked).stdout, pages["LIVE"])
+            assert run("docs", asked).stdout == pages["LIVE"]
         for older, now in (("formats", "FILES"), ("CONFIG.md", "LINKS"), ("FAULTS", "NET")):
-            self.assertEqual(run("docs", older).stdout, pages[now])
+            assert run("docs", older).stdout == pages[now]
         wrong = run("docs", "LIVES")
-        self.assertEqual((wrong.returncode, wrong.stderr), (2, "hinge docs: no page 'LIVES'; write hinge docs LIVE\n"))
+        assert (wrong.returncode, wrong.stderr) == (2, "hinge docs: no page 'LIVES'; write hinge docs LIVE\n")
 
     def test_each_page_that_a_help_names_is_there(self) -> None:
         """The check uses `hinge docs`, since an installation contains no folder docs/."""
         pages, named = {page.stem for page in (TOP / "docs").glob("*.md")}, 0
         for command in COMMANDS:
             told = run(command, "--help").stdout
-            self.assertNotIn("docs/", told.replace("\n", " "), command)
+            assert "docs/" not in told.replace("\n", " "), command
             found = re.findall(r"hinge docs ([A-Z]+)", " ".join(told.split()))
             named += len(found)
-            self.assertLessEqual(set(found), pages | {"NAME"}, command)
-        self.assertGreater(named, 3)
+            assert set(found) <= pages | {"NAME"}, command
+        assert named > 3
 
     def test_no_word_is_a_wrong_command_line(self) -> None:
         told = subprocess.run([sys.executable, "-m", "hinge"], capture_output=True, text=True)
-        self.assertEqual((told.returncode, told.stdout, told.stderr), (2, "", run("help").stdout))
+        assert (told.returncode, told.stdout, told.stderr) == (2, "", run("help").stdout)
 
     def test_a_word_that_is_no_command(self) -> None:
         told = run("packet")
-        self.assertEqual(
-            (told.returncode, told.stdout, told.stderr), (2, "", "hinge: no command 'packet'; did you mean `hinge packets`?\n")
-        )
-        self.assertEqual(run("help", "xyz").stderr, "hinge: no command 'xyz'; `hinge help` lists the commands.\n")
+        assert (told.returncode, told.stdout, told.stderr) == (2, "", "hinge: no command 'packet'; did you mean `hinge packets`?\n")
+        assert run("help", "xyz").stderr == "hinge: no command 'xyz'; `hinge help` lists the commands.\n"
         for word in ("stats", "picture", "paths", "through", "with-clock"):
-            self.assertRegex(run(word, "x").stderr, rf"^hinge: no command '{word}'; write (hinge look|LD_PRELOAD=)", word)
+            assert re.search(rf"^hinge: no command '{word}'; write (hinge look|LD_PRELOAD=)", run(word, "x").stderr), word
 
     def test_an_option_that_is_none_is_answered_by_the_one_that_is_near(self) -> None:
         for words, near in (
@@ -118,11 +116,11 @@ class Help(unittest.TestCase):
             (["run", "--rata", "5", "--", "true"], "--rata; `hinge help run` lists the options"),
         ):
             done = run(*words)
-            self.assertEqual((done.returncode, done.stderr.splitlines()[-1].split("arguments: ")[1]), (2, near))
+            assert (done.returncode, done.stderr.splitlines()[-1].split("arguments: ")[1]) == (2, near)
 
     def test_the_version_is_that_of_the_file(self) -> None:
         version = (PACKAGE.parents[1] / "VERSION").read_text()
-        self.assertEqual((run("--version").stdout, run("-V").stdout), (f"hinge {version}",) * 2)
+        assert (run("--version").stdout, run("-V").stdout) == (f"hinge {version}",) * 2
 
 
 class Programs(WithFolder):
@@ -150,16 +148,16 @@ class Programs(WithFolder):
         return done.stdout or done.stderr.splitlines()[-1]
 
     def test_the_one_that_was_installed_goes_before_the_path(self) -> None:
-        self.assertEqual(self.told(), f"9.8.7 {self.prefix}/bin/dummynet\n")
+        assert self.told() == f"9.8.7 {self.prefix}/bin/dummynet\n"
 
     def test_the_path_where_none_was_installed(self) -> None:
         (self.prefix / "bin" / "dummynet").unlink()
-        self.assertEqual(self.told(), f"9.8.7 {self.other}/dummynet\n")
+        assert self.told() == f"9.8.7 {self.other}/dummynet\n"
 
     def test_the_variable_goes_before_all(self) -> None:
-        self.assertEqual(self.told(DUMMYNET=f"{self.other}/dummynet"), f"9.8.7 {self.other}/dummynet\n")
+        assert self.told(DUMMYNET=f"{self.other}/dummynet") == f"9.8.7 {self.other}/dummynet\n"
         told = self.told(DUMMYNET=str(self.other))
-        self.assertTrue(told.endswith(f"DUMMYNET names {self.other}, which isn't a program"))
+        assert told.endswith(f"DUMMYNET names {self.other}, which isn't a program")
 
 
 COMPLETION = TOP / "tools" / "release" / "hinge-completion.bash"
@@ -205,32 +203,32 @@ def typed(shell: str, place: Path) -> list[str]:
 class Completion(unittest.TestCase):
     def test_words_files_and_names_in_a_terminal(self) -> None:
         for shell in filter(shutil.which, QUIET):
-            self.assertEqual(typed(shell, folder() / shell), list(TYPED.values()), shell)
+            assert typed(shell, folder() / shell) == list(TYPED.values()), shell
 
 
 class Doctor(unittest.TestCase):
     def test_each_trial_has_its_line(self) -> None:
         done = run("doctor")
         lines = done.stdout.splitlines()[: len(TRIALS)]
-        self.assertEqual([*TRIALS], [line[5 : 5 + len(what)] for line, what in zip(lines, TRIALS)])
-        self.assertLessEqual({line[:5] for line in lines}, {"yes  ", "no   "})
+        assert [*TRIALS] == [line[5 : 5 + len(what)] for line, what in zip(lines, TRIALS)]
+        assert {line[:5] for line in lines} <= {"yes  ", "no   "}
         works = f"yes  {[*TRIALS][1]}" in lines
-        self.assertEqual(done.returncode, 0 if works else 7, done.stdout + done.stderr)
+        assert done.returncode == (0 if works else 7), done.stdout + done.stderr
 
     def test_what_is_missing_is_named_with_its_package(self) -> None:
         with mock.patch.dict(os.environ, {"PATH": "/nonexistent"}):
-            self.assertEqual(
-                first_words(), Finding("there is no ping and no git and no redis-server", ("iputils-ping", "git", "redis-server"))
+            assert first_words() == Finding(
+                "there is no ping and no git and no redis-server", ("iputils-ping", "git", "redis-server")
             )
-            self.assertEqual(outside(), Finding("there is neither slirp4netns nor pasta", ("slirp4netns",)))
+            assert outside() == Finding("there is neither slirp4netns nor pasta", ("slirp4netns",))
             with mock.patch.object(os, "geteuid", lambda: 1000):
-                self.assertEqual(users(), Finding("there is no newuidmap", ("uidmap",)))
+                assert users() == Finding("there is no newuidmap", ("uidmap",))
         lacking = modules(no_such_module="python3-none")
-        self.assertEqual(lacking, Finding("Python lacks no_such_module", ("python3-none",)))
-        self.assertEqual(line_of("x", lacking), "no   x: Python lacks no_such_module")
-        self.assertEqual(line_of("x", Finding()), "yes  x")
-        self.assertEqual(install(["a", "b", "a"]), "sudo apt-get install a b")
-        self.assertIsNone(install([]))
+        assert lacking == Finding("Python lacks no_such_module", ("python3-none",))
+        assert line_of("x", lacking) == "no   x: Python lacks no_such_module"
+        assert line_of("x", Finding()) == "yes  x"
+        assert install(["a", "b", "a"]) == "sudo apt-get install a b"
+        assert install([]) is None
 
     def test_a_run_that_fails_says_why(self) -> None:
-        self.assertEqual(doctor.of_run("--net", "nonsense").why.partition(":")[0], "--net nonsense")
+        assert doctor.of_run("--net", "nonsense").why.partition(":")[0] == "--net nonsense"

@@ -177,13 +177,11 @@ class OfNets(unittest.TestCase):
 
     def test_its_page_has_the_words_of_links_and_why_of_packets(self) -> None:
         place = self.session(cut_link())
-        self.assertEqual(run("look", place, "-o", place / "x.html").returncode, 0)
+        assert run("look", place, "-o", place / "x.html").returncode == 0
         drawn = drawn_by((place / "x.html").read_text())
-        self.assertEqual(drawn["title"].split("; ")[0], "a - r 10ms")
+        assert drawn["title"].split("; ")[0] == "a - r 10ms"
         [delays] = [panel for panel in drawn["panels"] if panel["title"] == "Delay on each way: over a packet, why"]
-        self.assertTrue(
-            delays["items"][0]["words"][3].startswith("a > r: Row 4 (udp 10.8.0.1:1 > 10.8.0.3:2, 1,250 bytes)"), delays
-        )
+        assert delays["items"][0]["words"][3].startswith("a > r: Row 4 (udp 10.8.0.1:1 > 10.8.0.3:2, 1,250 bytes)"), delays
 
     def test_what_is_refused(self) -> None:
         place = self.session(cut_link())

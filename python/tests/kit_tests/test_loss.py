@@ -60,25 +60,21 @@ class Models(unittest.TestCase):
             self.assertAlmostEqual(link.counts[Outcome.LOST] / 1000, 1 / 6, delta=0.05)
 
     def test_rates_of_zero_and_one(self) -> None:
-        self.assertEqual(set(drawn(GilbertElliott(0, 1), 1000)), {KEPT})
-        self.assertEqual(drawn(GilbertElliott(1, 1), 6), [KEPT, LOST, KEPT, LOST, KEPT, LOST])
-        self.assertEqual(drawn(GilbertElliott(1, 0), 4), [KEPT, LOST, LOST, LOST])
+        assert set(drawn(GilbertElliott(0, 1), 1000)) == {KEPT}
+        assert drawn(GilbertElliott(1, 1), 6) == [KEPT, LOST, KEPT, LOST, KEPT, LOST]
+        assert drawn(GilbertElliott(1, 0), 4) == [KEPT, LOST, LOST, LOST]
 
     def test_words_by_seed_are_even(self) -> None:
         words = drawn(Bernoulli(9, 2))
         self.assertAlmostEqual(sum(word < 2**31 // 20 for word in words) / MANY, 0.05, delta=0.003)
-        self.assertEqual(words, drawn(Bernoulli(9, 2)))
+        assert words == drawn(Bernoulli(9, 2))
         for other in (Bernoulli(9, 1), Bernoulli(8, 2)):
-            self.assertLess(len(set(words) & set(drawn(other))), 20)
+            assert len(set(words) & set(drawn(other))) < 20
 
     def test_lists_and_functions(self) -> None:
-        self.assertEqual([number for number, word in enumerate(drawn(Listed([2, 5]), 9), 1) if word == LOST], [2, 5])
-        self.assertEqual(
-            [number for number, word in enumerate(drawn(Chosen(lambda number: number % 4 == 0), 9), 1) if word == LOST], [4, 8]
-        )
-        self.assertEqual(
-            [number for number, word in enumerate(drawn(read_model("list:1,3-5")(1, 1), 9), 1) if word == LOST], [1, 3, 4, 5]
-        )
+        assert [number for number, word in enumerate(drawn(Listed([2, 5]), 9), 1) if word == LOST] == [2, 5]
+        assert [number for number, word in enumerate(drawn(Chosen(lambda number: number % 4 == 0), 9), 1) if word == LOST] == [4, 8]
+        assert [number for number, word in enumerate(drawn(read_model("list:1,3-5")(1, 1), 9), 1) if word == LOST] == [1, 3, 4, 5]
 
     def test_what_is_no_model(self) -> None:
         for text in (
@@ -102,7 +98,7 @@ class Models(unittest.TestCase):
         rows = "".join(f"{number},pipe,1,10.0.0.1,10.0.0.2,17,1,2,100,{word}\n" for number, word in enumerate(words))
         report = replay("model", write("model.config", "pipe 1 config plr 0.5\n"), write("model.csv", f"{HEADER}\n{rows}"))
         lost = {int(row["row"]) for row in rows_of(report) if row["event"] == "lost"}
-        self.assertEqual(lost, {number for number, word in enumerate(words, 1) if word == LOST})
+        assert lost == {number for number, word in enumerate(words, 1) if word == LOST}
 
     def test_a_picture_names_the_model_and_not_the_rate_under_which_it_decides(self) -> None:
         """The words of each packet say which: random ones stay a rate of 0.5."""
@@ -119,34 +115,34 @@ class Models(unittest.TestCase):
                 rows = [dropped.row for dropped in net.dropped]
             told[name] = provenance_of(read_sources([str(path)], None, [], 1, []))[0]
             why = run("why", rows[0], path).stdout
-            self.assertIn({"gilbert": "lost by a model", "random": "lost by the loss rate"}[name], why)
+            assert {"gilbert": "lost by a model", "random": "lost by the loss rate"}[name] in why
         self.assertRegex(
             told["gilbert"],
             r"^pipe 1 config bw 8000000bit/s losses by a model \(\d+(\.\d+)? % of 400 packets, [3-9]\.\d+ in a row\)$",
         )
-        self.assertEqual(told["random"], "pipe 1 config bw 8000000bit/s plr 0.500000000000000000")
+        assert told["random"] == "pipe 1 config bw 8000000bit/s plr 0.500000000000000000"
 
 
 @needs_tshark
 class Packets(unittest.TestCase):
     def written(self, *words: object) -> list[dict[str, str]]:
         done = run("packets", MIXED, "-o", "loss.csv", *words)
-        self.assertEqual(done.returncode, 0, done.stderr)
+        assert done.returncode == 0, done.stderr
         return rows_of(folder() / "loss.csv")
 
     def test_each_direction_has_a_model_of_its_own(self) -> None:
         rows = self.written("--from", "10.9.0.1", "--loss", "pipe 1=gilbert:0.01,0.3", "--loss", "pipe 2=list:1,7-9")
         ways = {number: [int(row["word"]) for row in rows if row["number"] == number] for number in "12"}
-        self.assertEqual(ways["1"], drawn(GilbertElliott(0.01, 0.3, seed=1, direction=1), len(ways["1"])))
-        self.assertEqual([number for number, word in enumerate(ways["2"], 1) if word == LOST], [1, 7, 8, 9])
+        assert ways["1"] == drawn(GilbertElliott(0.01, 0.3, seed=1, direction=1), len(ways["1"]))
+        assert [number for number, word in enumerate(ways["2"], 1) if word == LOST] == [1, 7, 8, 9]
 
     def test_words_do_not_depend_on_the_other_direction(self) -> None:
         for words in ((), ("--loss", "gilbert:0.05,0.5")):
             both = [row["word"] for row in self.written("--from", "10.9.0.1", *words) if row["number"] == "1"]
             alone = [row["word"] for row in self.written("--map", "src 10.9.0.1 => pipe 1", *words)]
-            self.assertEqual(both, alone)
+            assert both == alone
 
     def test_faults_are_one_line(self) -> None:
         for model in ("plr:1", "pipe=list:1", "pipe 1=list:0", "gilbert:1"):
             done = run("packets", MIXED, "--loss", model)
-            self.assertEqual((done.returncode, "Traceback" in done.stderr), (2, False))
+            assert (done.returncode, "Traceback" in done.stderr) == (2, False)

@@ -20,6 +20,7 @@ from hinge.program import dummynet
 from hinge.run.host import program
 from hinge.run.host_lines import HostLines
 from hinge.run.page import STARTING, Counts, Page
+from hinge.run.plan import Plan
 from hinge.run.summary import VOID
 from hinge.run.system import Missing
 
@@ -28,8 +29,7 @@ SEEDS = "seed 0 1\nseed 1 1\n"
 AT_ONCE = 64  # packets that the host takes of a way before it looks round
 Done = subprocess.CompletedProcess
 Word = Union[str, Path]
-
-
+CLIENT, SERVER = "10.8.0.1", "10.8.0.2"
 AS_IN_A_CONTAINER = [
     *"unshare -m sh -c".split(),
     "mount --bind /proc/sys /proc/sys && mount -o remount,bind,ro /proc/sys && "
@@ -103,6 +103,10 @@ def ip4(src: str, dst: str, proto: int, sport: int, dport: int, length: int, tos
     return (head + struct.pack("!HH", sport, dport)).ljust(length, b"\0")
 
 
+def udp(number: int, length: int = 40) -> bytes:
+    return ip4(CLIENT, SERVER, 17, 1, number, length)
+
+
 def ip6(src: str, dst: str, proto: int, body: bytes) -> bytes:
     ends = socket.inet_pton(socket.AF_INET6, src) + socket.inet_pton(socket.AF_INET6, dst)
     return struct.pack("!IHBB", 0x6 << 28, len(body), proto, 64) + ends + body
@@ -168,6 +172,13 @@ def stopped(process: int) -> Iterator[None]:
         yield
     finally:
         os.kill(process, signal.SIGCONT)
+
+
+def plan_of(*lines: str) -> Plan:
+    plan = Plan()
+    for line in lines:
+        plan.link(line)
+    return plan
 
 
 class Ended:

@@ -9,7 +9,7 @@ import sys
 import tempfile
 import unittest
 
-from behind import Behind
+from in_a_folder import Behind
 from hinge.run.interfaces import leads_out_in_ipv6
 from hinge.run.outside import GATEWAY, GATEWAY6
 from linked import AS_IN_A_CONTAINER, HINGE, audited_as_lawful, found, needs, needs_mounts, needs_rooms, run, web_server

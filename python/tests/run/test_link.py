@@ -8,11 +8,27 @@ import struct
 import time
 import unittest
 
-from linked import AT_ONCE, SEEDS, Ended, Linked, audited_as_lawful, found, ip4, ip6, needs_host, stopped, until, with_sigterm
+from linked import (
+    AT_ONCE,
+    CLIENT,
+    SEEDS,
+    SERVER,
+    Ended,
+    Linked,
+    audited_as_lawful,
+    found,
+    ip4,
+    ip6,
+    needs_host,
+    plan_of,
+    stopped,
+    udp,
+    until,
+    with_sigterm,
+)
 from hinge.captures.random_words import word
 from hinge.loss import LOST, GilbertElliott
 from hinge.run.page import ENDED_WELL
-from link_packets import CLIENT, SERVER, plan_of, udp
 
 
 @needs_host

@@ -9,8 +9,23 @@ from contextlib import suppress
 
 from hinge.run.plan import Plan
 from hinge.run.summary import void
-from link_packets import CLIENT, SERVER, plan_of, udp
-from linked import AT_ONCE, SEEDS, Linked, audited, crowded, found, ip4, needs_host, stopped, until, with_lines
+from linked import (
+    AT_ONCE,
+    CLIENT,
+    SEEDS,
+    SERVER,
+    Linked,
+    audited,
+    crowded,
+    found,
+    ip4,
+    needs_host,
+    plan_of,
+    stopped,
+    udp,
+    until,
+    with_lines,
+)
 
 
 @needs_host

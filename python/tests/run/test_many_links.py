@@ -8,7 +8,7 @@ import unittest
 from pathlib import Path
 from unittest import mock
 
-from linked import Linked, found, ip4, ip6, needs, needs_host, until
+from linked import Linked, found, ip6, needs, needs_host, udp, until
 
 from hinge.run.page import NOT_ALLOWED
 from hinge.events.link_words import link_event
@@ -42,10 +42,6 @@ __attribute__((destructor)) static void tell(void) {
     if (file) fprintf(file, "%lu %lu", reads, timed), fclose(file);
 }
 """
-
-
-def udp(number: int, length: int = 40) -> bytes:
-    return ip4("10.8.0.1", "10.8.0.2", 17, 1, number, length)
 
 
 @needs_host

@@ -29,18 +29,16 @@ OPENS = (
 
 class OfMaps(WithFolder):
     def test_an_id_is_itself_and_the_others_are_subordinate(self) -> None:
-        self.assertEqual(" ".join(mapping(1000, Subordinate(100000, 65536))), "0 100000 1000 1000 1000 1 1001 101000 64536")
-        self.assertEqual(" ".join(mapping(0, Subordinate(7, 5))), "0 0 1 1 7 5")
-        self.assertEqual(" ".join(mapping(100000, Subordinate(200000, 65536))), "0 200000 65536 100000 100000 1")
-        self.assertEqual(" ".join(mapping(5, Subordinate(200000, 5))), "0 200000 5 5 5 1")
+        assert " ".join(mapping(1000, Subordinate(100000, 65536))) == "0 100000 1000 1000 1000 1 1001 101000 64536"
+        assert " ".join(mapping(0, Subordinate(7, 5))) == "0 0 1 1 7 5"
+        assert " ".join(mapping(100000, Subordinate(200000, 65536))) == "0 200000 65536 100000 100000 1"
+        assert " ".join(mapping(5, Subordinate(200000, 5))) == "0 200000 5 5 5 1"
 
     def test_what_a_file_gives_to_a_user(self) -> None:
         path = self.folder / "subuid"
         path.write_text("other:1:2\nroot:3:x\nroot:300000:65536\n# none\n4321:7:8\n")
-        self.assertEqual(
-            [subordinate(str(path), user) for user in (0, 4321, 999999)], [Subordinate(300000, 65536), Subordinate(7, 8), None]
-        )
-        self.assertIsNone(subordinate(f"{self.folder}/none", 0))
+        assert [subordinate(str(path), user) for user in (0, 4321, 999999)] == [Subordinate(300000, 65536), Subordinate(7, 8), None]
+        assert subordinate(f"{self.folder}/none", 0) is None
 
 
 @needs_rooms
@@ -58,12 +56,12 @@ class OfUsers(WithFolder):
 
     def run_of(self, given: str, server: str, *command: str) -> str:
         done = self.as_a_user(given, *HINGE, "run", "--quiet", "--server", server, "--server-wait", "3s", "--", *command)
-        self.assertEqual(done.returncode, 0, done.stderr)
+        assert done.returncode == 0, done.stderr
         return done.stdout
 
     def test_terminals_have_their_group_where_there_are_subordinate_ids(self) -> None:
         for given, wanted in (("65534:200000:65536\n", "True"), ("", "False")):
-            self.assertEqual(self.run_of(given, OPENS, "id", "-u").split(), [wanted, "65534"])
+            assert self.run_of(given, OPENS, "id", "-u").split() == [wanted, "65534"]
 
     def test_ids_that_the_system_does_not_give(self) -> None:
         """newuidmap refuses the ids, and the room contains only the user's own."""
@@ -79,7 +77,7 @@ class OfUsers(WithFolder):
                 cwd="/",
                 timeout=60,
             )
-        self.assertEqual((done.returncode, done.stdout.split()), (0, ["65534", "65534", "1"]), done.stderr)
+        assert (done.returncode, done.stdout.split()) == (0, ["65534", "65534", "1"]), done.stderr
 
     def test_hosts_of_a_net(self) -> None:
         os.chmod(self.folder, 0o777)
@@ -89,4 +87,4 @@ class OfUsers(WithFolder):
             " done\nlink a b\n"
         )
         done = self.as_a_user("65534:200000:65536\n", *HINGE, "net", str(net), "--quiet")
-        self.assertEqual((self.folder / "told").read_text(), "True\n", done.stderr)
+        assert (self.folder / "told").read_text() == "True\n", done.stderr

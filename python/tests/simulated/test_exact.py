@@ -2,8 +2,7 @@
 
 import asyncio
 
-from machines import Ran, Simulated, needs
-from packets import idle, packets_of, served, shares_of
+from machines import Ran, Simulated, idle, needs, packets_of, served, shares_of
 from simulated_hosts import Ends
 
 from hinge.fault_lines import read_faults

@@ -7,8 +7,7 @@ from collections.abc import Iterable
 
 from hinge.simulated.pauses import MOST_GIVEN, Paused, drawn_pauses, given, pauses_of
 from hinge.simulated.time_options import pauses_word
-from machines import HERE, LINK, Simulated, needs
-from packets import packets_of
+from machines import HERE, LINK, Simulated, needs, packets_of
 
 ONCE = """take() { if [ ! -e lock ]; then echo > lock; echo $1 >> took; fi; }
           rm -f lock took; take a & take b & wait; test $(wc -l < took) = 1"""
