@@ -57,12 +57,11 @@ class Words(unittest.TestCase):
             assert link.line == f"pipe {link.pipe} config bw 8Mbit/s delay 20"
 
 
-class Pages(unittest.TestCase):
-    def test_they_name_each_word(self) -> None:
-        """Those that dummynet doesn't have."""
-        for name in ("LINKS.md", "hinge.1"):
-            page = (TOP / "docs" / name).read_text(encoding="utf-8")
-            assert [word for word in EXTRAS if not re.search(rf"(`|Ql ){word} ", page)] == [], name
+def test_they_name_each_word() -> None:
+    """Those that dummynet doesn't have."""
+    for name in ("LINKS.md", "hinge.1"):
+        page = (TOP / "docs" / name).read_text(encoding="utf-8")
+        assert [word for word in EXTRAS if not re.search(rf"(`|Ql ){word} ", page)] == [], name
 
 
 class Presets(unittest.TestCase):

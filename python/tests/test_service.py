@@ -4,7 +4,6 @@ import re
 import resource
 import signal
 import sys
-import unittest
 from concurrent.futures import ThreadPoolExecutor
 from random import Random
 from time import sleep
@@ -130,58 +129,56 @@ class OneCaller(WithFolder):
         self.assertEqual(45, path.read_text().count("\nd,"))
 
 
-class AsOneShaper(unittest.TestCase):
-    def test_two_callers_by_turns(self) -> None:
-        rng = Random(1)
-        lines = (
-            "pipe 1 config bw 8Mbit/s delay 20ms queue 5 mask src-ip 3",
-            "pipe 2 config bw 1Mbit/s delay 3ms",
-            "queue 1 config pipe 2 weight 3 mask dst-port 1",
-        )
-        with Service(2) as opened, Shaper() as shaper:
-            for line in lines:
-                opened.callers[0].configure(line)
-                shaper.configure(line)
-            for turn in range(600):
-                caller, moment = rng.choice(opened.callers), turn * MS // 2
-                packet = dict(
-                    rng.choice(({"pipe": 1}, {"queue": 1}, {"queue": 2})), src=rng.randrange(4), dport=rng.randrange(2), word=0
-                )
-                self.assertEqual(shaper.submit(moment, 1000, **packet), caller.submit(moment, 1000, **packet))
-                self.assertEqual(shaper.wake(), rng.choice(opened.callers).wake())
-                if turn % 7 == 0:
-                    self.assertEqual(shaper.show(), caller.show())
-                    self.assertEqual(shaper.advance(moment - 1 if turn else 0), caller.advance(moment - 1 if turn else 0))
-                if turn % 5 == 0:
-                    self.assertEqual(shaper.collect(moment), caller.collect(moment))
+def test_two_callers_by_turns() -> None:
+    rng = Random(1)
+    lines = (
+        "pipe 1 config bw 8Mbit/s delay 20ms queue 5 mask src-ip 3",
+        "pipe 2 config bw 1Mbit/s delay 3ms",
+        "queue 1 config pipe 2 weight 3 mask dst-port 1",
+    )
+    with Service(2) as opened, Shaper() as shaper:
+        for line in lines:
+            opened.callers[0].configure(line)
+            shaper.configure(line)
+        for turn in range(600):
+            caller, moment = rng.choice(opened.callers), turn * MS // 2
+            packet = dict(
+                rng.choice(({"pipe": 1}, {"queue": 1}, {"queue": 2})), src=rng.randrange(4), dport=rng.randrange(2), word=0
+            )
+            assert shaper.submit(moment, 1000, **packet) == caller.submit(moment, 1000, **packet)
+            assert shaper.wake() == rng.choice(opened.callers).wake()
+            if turn % 7 == 0:
+                assert shaper.show() == caller.show()
+                assert shaper.advance(moment - 1 if turn else 0) == caller.advance(moment - 1 if turn else 0)
+            if turn % 5 == 0:
+                assert shaper.collect(moment) == caller.collect(moment)
 
 
-class Counts(unittest.TestCase):
-    def test_from_one_to_fifteen(self) -> None:
-        for count in (1, 15):
-            with Service(count) as opened:
-                self.assertEqual(list(range(count)), [caller.number for caller in opened.callers])
-                self.assertEqual(list(range(count)), [caller.advance(caller.number) for caller in opened.callers])
-            self.assertTrue(opened.closed)
+def test_from_one_to_fifteen() -> None:
+    for count in (1, 15):
+        with Service(count) as opened:
+            assert list(range(count)) == [caller.number for caller in opened.callers]
+            assert list(range(count)) == [caller.advance(caller.number) for caller in opened.callers]
+        assert opened.closed
 
 
-class Waiting(unittest.TestCase):
-    def test_a_busy_service_is_tried_at_once_and_then_after_rests(self) -> None:
-        statuses = iter([service.BUSY] * 6 + [16])
-        with mock.patch.object(service, "sleep") as sleep:
-            self.assertEqual(16, service.answered(lambda *_: next(statuses), 1, 2))
-        self.assertEqual([mock.call(0)] * 4 + [mock.call(20e-6)] * 2, sleep.mock_calls)
+def test_a_busy_service_is_tried_at_once_and_then_after_rests() -> None:
+    statuses = iter([service.BUSY] * 6 + [16])
+    with mock.patch.object(service, "sleep") as sleep:
+        assert 16 == service.answered(lambda *_: next(statuses), 1, 2)
+    assert [mock.call(0)] * 4 + [mock.call(20e-6)] * 2 == sleep.mock_calls
 
 
-class Header(unittest.TestCase):
-    def test_statuses(self) -> None:
-        statuses = dict(re.findall(r"(DN_\w+) = (\d+)", HEADER.read_text()))
-        self.assertEqual(
-            {"DN_BUSY": str(service.BUSY), "DN_BAD_COUNT": "16", "DN_UNWRITTEN": "17", "DN_NO_ENTRY": str(service.NO_ENTRY)},
-            statuses,
-        )
-        front = f'#define DN_HISTORY_FRONT "{history_file.FRONT.decode().strip()}\\n"'
-        self.assertIn(front, HEADER.with_name("hingetulip.h").read_text())  # which the header of services includes
+def test_statuses() -> None:
+    statuses = dict(re.findall(r"(DN_\w+) = (\d+)", HEADER.read_text()))
+    assert {
+        "DN_BUSY": str(service.BUSY),
+        "DN_BAD_COUNT": "16",
+        "DN_UNWRITTEN": "17",
+        "DN_NO_ENTRY": str(service.NO_ENTRY),
+    } == statuses
+    front = f'#define DN_HISTORY_FRONT "{history_file.FRONT.decode().strip()}\\n"'
+    assert front in HEADER.with_name("hingetulip.h").read_text()  # which the header of services includes
 
 
 def work(shared: Service, number: int) -> int:

@@ -37,7 +37,6 @@ class Look(unittest.TestCase):
         config, packets, report = mixed("dsl")
         words = [sys.executable, "-m", "hinge", "look", packets, report, "--config", config, "-o", "gone.svg", "-o", "gone.html"]
         process = subprocess.Popen(words, cwd=folder(), stdout=subprocess.PIPE)
-        assert process.stdout
         process.stdout.close()
         self.assertEqual(process.wait(), 0)
         self.assertIn("</svg>", (folder() / "gone.svg").read_text())

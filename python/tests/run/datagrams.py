@@ -31,7 +31,6 @@ class Path:
             stderr=subprocess.PIPE,
             preexec_fn=limit,
         )
-        assert self.process.stdout
         self.port = int(self.process.stdout.readline().rpartition(":")[2] or 0)
 
     def ended(self) -> tuple[int, str]:

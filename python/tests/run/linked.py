@@ -131,7 +131,6 @@ def web_server(folder: Word, address: str) -> Iterator[str]:
     """Returns the port of a server for this folder's files, outside all links."""
     words = [sys.executable, "-u", "-m", "http.server", "0", "--bind", address]
     with subprocess.Popen(words, cwd=folder, stdout=subprocess.PIPE, stderr=subprocess.DEVNULL, text=True) as server:
-        assert server.stdout
         try:
             yield found(r"port (\d+)", server.stdout.readline())[0]
         finally:
@@ -209,7 +208,6 @@ class Linked:
             stdin=subprocess.PIPE,
             stderr=subprocess.PIPE,
         )
-        assert self.process.stdin
         self.process.stdin.write(f"transcript {most} {self.transcript}\n{plan}".encode())
         self.process.stdin.close()
         for _, its in pairs:
@@ -224,7 +222,6 @@ class Linked:
     def ended(self) -> Ended:
         """Waits until the host ends by itself."""
         status = self.process.wait(60)
-        assert self.process.stderr
         with self.process.stderr as said, open(self.transcript) as history:
             return Ended(status, self.page.read(), history.read(), said.read().decode())
 

@@ -67,7 +67,6 @@ class OfCgroups(unittest.TestCase):
         names[2].mkdir()
         self.addCleanup(lambda: [one.rmdir() for one in names if one.exists()])
         with subprocess.Popen([sys.executable, "-c", MAKES_CGROUPS, *names[:2]], stdout=subprocess.PIPE, cwd=PYTHON) as run:
-            assert run.stdout
             run.stdout.read(1)
             remove_left(above)
             self.assertEqual([one.exists() for one in names], [True] * 3)

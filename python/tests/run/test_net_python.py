@@ -129,7 +129,6 @@ class OfNets(InAFolder):
             with self.assertRaises(NetError) as refused:
                 net.start()
             assert str(refused.exception) == wanted
-            assert net.process
             assert net.process.poll() is not None
 
     def test_what_is_refused(self) -> None:
@@ -179,7 +178,6 @@ class OfNets(InAFolder):
                 stderr=subprocess.DEVNULL,
                 text=True,
             )
-            assert caller.stdout
             assert caller.stdout.readline() == "begun\n"
             until(lambda: len(matching("-f", f"^sleep {mark}")) == 3)
             caller.send_signal(number)

@@ -191,7 +191,6 @@ except OSError as error:
 
 @needs_rooms
 @needs("unshare")
-class OfRequests(unittest.TestCase):
-    def test_many_routes_take_one_socket(self) -> None:
-        done = subprocess.run(["unshare", "-rn", sys.executable, "-c", SCRIPT], capture_output=True, text=True, timeout=60)
-        assert done.stdout.splitlines() == ["1 True 1000", "Invalid argument", "No such device", "No such device"], done.stderr
+def test_many_routes_take_one_socket() -> None:
+    done = subprocess.run(["unshare", "-rn", sys.executable, "-c", SCRIPT], capture_output=True, text=True, timeout=60)
+    assert done.stdout.splitlines() == ["1 True 1000", "Invalid argument", "No such device", "No such device"], done.stderr

@@ -5,7 +5,6 @@ import errno
 import os
 import socket
 import threading
-import unittest
 from unittest import mock
 
 from linked import until
@@ -18,12 +17,11 @@ from hinge.border.serving import LEFT, MOST_CLIENTS, SHORT, Answer as Outcome, S
 from hinge.run.words import Wrong
 
 
-class OfMessages(unittest.TestCase):
-    def test_each_comes_back(self) -> None:
-        for message in (Order(3, change="up 1ms"), Order(status=True), Order(end=True), Reply(3, refused="")):
-            self.assertEqual(read_message(type(message), line_of(message)), message)
-        told = read_message(Reply, b'{"told": [{"moment": 1, "line": "pipe 1 config"}]}').told
-        self.assertEqual([(one.moment, one.line, one.refused) for one in told or []], [(1, "pipe 1 config", "")])
+def test_each_comes_back() -> None:
+    for message in (Order(3, change="up 1ms"), Order(status=True), Order(end=True), Reply(3, refused="")):
+        assert read_message(type(message), line_of(message)) == message
+    told = read_message(Reply, b'{"told": [{"moment": 1, "line": "pipe 1 config"}]}').told
+    assert [(one.moment, one.line, one.refused) for one in told or []] == [(1, "pipe 1 config", "")]
 
 
 class OfServers(WithFolder):

@@ -78,7 +78,6 @@ class Simulated(WithFolder):
         """Starts a run in the test's folder with additional variables; returns after the run printed this line."""
         streams = {"stdin": subprocess.DEVNULL, "stdout": subprocess.PIPE, "stderr": subprocess.DEVNULL}
         process = subprocess.Popen([*SIMULATED, "--", *words], cwd=self.folder, env=environment(**more), text=True, **streams)
-        assert process.stdout
         self.assertEqual(process.stdout.readline(), f"{line}\n")
         return process
 

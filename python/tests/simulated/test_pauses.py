@@ -25,7 +25,6 @@ class OfWords(unittest.TestCase):
 
     def test_pauses_one_by_one(self) -> None:
         pauses = pauses_of("20+1ms,9-5ns", 1)
-        assert pauses
         self.assertEqual(list(pauses.lines())[1:], ["9 before 5", "20 behind 1000000"])
 
     def test_what_is_drawn_is_the_seeds(self) -> None:
