@@ -32,7 +32,7 @@ class Faults(unittest.TestCase):
             ),
             (
                 "queue 1 config weight 3",
-                "word 1 'queue': the queue's line names no pipe; write queue 1 config pipe 1 .., in" " 'queue 1 config weight 3'",
+                "word 1 'queue': the queue's line names no pipe; write queue 1 config pipe 1 .., in 'queue 1 config weight 3'",
                 "needs a pipe",
                 1,
             ),

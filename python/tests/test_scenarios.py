@@ -5,19 +5,8 @@ from itertools import groupby
 from random import Random
 
 import hingetulip
-from reference import (
-    STYLES,
-    FastDummynet,
-    LineFault,
-    answer,
-    bad_line,
-    deliveries,
-    model,
-    packets_of,
-    parse_line,
-    reply_of,
-    scenarios,
-)
+from reference import STYLES, FastDummynet, LineFault, answer, bad_line, deliveries, model
+from reference import packets_of, parse_line, reply_of, scenarios
 
 
 class Scenarios(unittest.TestCase):

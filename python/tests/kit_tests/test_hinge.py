@@ -43,7 +43,7 @@ class Help(unittest.TestCase):
 
     def test_standard_input_is_a_file(self) -> None:
         packets = write(
-            "in.csv", "moment,target,number,src,dst,proto,sport,dport,len,word\n" "0,pipe,1,10.0.0.1,10.0.0.2,17,1,2,1000,0\n"
+            "in.csv", "moment,target,number,src,dst,proto,sport,dport,len,word\n0,pipe,1,10.0.0.1,10.0.0.2,17,1,2,1000,0\n"
         )
         report = write("in.report", "event,row,flow,packet,at,start,due\nout,1,0,0,0,0,5\n")
         plain = run("look", packets, report).stdout

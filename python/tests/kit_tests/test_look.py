@@ -71,10 +71,7 @@ class Look(unittest.TestCase):
             count = len(read_history(history_of(name)).replay.packets)
             rows = range(1, count + 1, max(1, count // 50))
             wanted = run("why", *rows, config, packets, report).stdout
-            for words in (
-                ("why", *rows, history_of(name)),
-                ("why", *rows, packets, report, "--config", config),
-            ):
+            for words in (("why", *rows, history_of(name)), ("why", *rows, packets, report, "--config", config)):
                 self.assertEqual(run(*words).stdout.replace(history_of(name), str(config)), wanted)
 
     def test_a_source_that_lacks_something_says_what(self) -> None:
@@ -246,11 +243,6 @@ one.history and reply.history part in call 3, at 0.000000500 s: its replies diff
     def test_what_it_does_not_take(self) -> None:
         one = self.made("one.history", self.LINES)
         (folder() / "text").write_text("a text\n")
-        for words, status in (
-            ((one,), 2),
-            ((one, one, one), 2),
-            ((one, "text"), 4),
-            ((one, "none"), 6),
-        ):
+        for words, status in (((one,), 2), ((one, one, one), 2), ((one, "text"), 4), ((one, "none"), 6)):
             self.assertEqual(status, run("look", "--diff", *words).returncode)
         self.assertEqual(2, run("look", one, one).returncode)

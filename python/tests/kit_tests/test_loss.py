@@ -85,19 +85,8 @@ class Models(unittest.TestCase):
         assert [number for number, word in enumerate(drawn(read_model("list:1,3-5")(1, 1), 9), 1) if word == LOST] == [1, 3, 4, 5]
 
     def test_what_is_no_model(self) -> None:
-        for text in (
-            "",
-            "gilbert",
-            "gilbert:0.1",
-            "gilbert:0.1,2",
-            "gilbert:a,b",
-            "gilbert:1,1,1,1,1",
-            "list:",
-            "list:0",
-            "list:5-3",
-            "list:a",
-            "plr:1",
-        ):
+        texts = "|gilbert|gilbert:0.1|gilbert:0.1,2|gilbert:a,b|gilbert:1,1,1,1,1|list:|list:0|list:5-3|list:a|plr:1"
+        for text in texts.split("|"):
             with self.assertRaises(ValueError, msg=text):
                 read_model(text)
 

@@ -37,15 +37,11 @@ class Words(unittest.TestCase):
 
 class ByHand(unittest.TestCase):
     def test_four_packets(self) -> None:
-        packets = write(
-            "hand.csv",
-            HEADER
-            + "\n"
-            + "".join(
-                f"{moment},pipe,{pipe},10.0.0.1,10.0.0.2,17,1,2,1000,0\n"
-                for moment, pipe in ((0, 1), (0, 1), (0, 1), (1_000_000, 1), (2_000_000, 9))
-            ),
+        rows = "".join(
+            f"{moment},pipe,{pipe},10.0.0.1,10.0.0.2,17,1,2,1000,0\n"
+            for moment, pipe in ((0, 1), (0, 1), (0, 1), (1_000_000, 1), (2_000_000, 9))
         )
+        packets = write("hand.csv", f"{HEADER}\n{rows}")
         report = write(
             "hand.report",
             "event,row,flow,packet,at,start,due\nout,1,0,0,0,0,1000000\nout,2,0,1,0,1000000,2000000\n"

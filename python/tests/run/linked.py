@@ -14,7 +14,7 @@ import unittest
 from contextlib import contextmanager
 from functools import lru_cache
 from pathlib import Path
-from typing import Callable, Iterator, Optional, Sequence, Union
+from typing import Any, Callable, Iterator, Optional, Sequence, Union
 
 from hinge.program import dummynet
 from hinge.run.host import program
@@ -49,16 +49,14 @@ def no_host() -> str:
 needs_host = unittest.skipIf(bool(no_host()), no_host())
 
 
+def outcome(words: Sequence[object], **how: Any) -> Done[str]:
+    """Runs a command, whose output is text."""
+    return subprocess.run([*map(str, words)], capture_output=True, text=True, **{"timeout": 60, **how})
+
+
 def hinge(command: str, *words: Word, seconds: float = 60, folder: Optional[Word] = None, **variables: str) -> Done[str]:
-    return subprocess.run(
-        [*HINGE, command, *map(str, words)],
-        capture_output=True,
-        text=True,
-        timeout=seconds,
-        stdin=subprocess.DEVNULL,
-        cwd=folder,
-        env={**os.environ, **variables},
-    )
+    how: dict[str, Any] = {"timeout": seconds, "stdin": subprocess.DEVNULL, "cwd": folder, "env": {**os.environ, **variables}}
+    return outcome([*HINGE, command, *words], **how)
 
 
 def run(*words: Word, seconds: float = 60) -> Done[str]:

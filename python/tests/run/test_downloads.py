@@ -12,7 +12,7 @@ import unittest
 from in_a_folder import Behind
 from hinge.run.interfaces import leads_out_in_ipv6
 from hinge.run.outside import GATEWAY, GATEWAY6
-from linked import AS_IN_A_CONTAINER, HINGE, audited_as_lawful, found, needs, needs_mounts, needs_rooms, run, web_server
+from linked import AS_IN_A_CONTAINER, HINGE, audited_as_lawful, found, needs, needs_mounts, needs_rooms, outcome, run, web_server
 
 
 @needs_rooms
@@ -131,14 +131,8 @@ class OfOutside(Behind):
         (self.folder / "data").write_text("from outside")
         with web_server(self.folder, own) as port:
             ask = ["curl", "-s", "-m", "9", "-w", " %{time_total}", f"http://{gateway}:{port}/data"]
-            done = subprocess.run(
-                [*before, *HINGE, "run", "--quiet", option, "--up", "30ms", "--down", "30ms", "--", *ask],
-                capture_output=True,
-                text=True,
-                timeout=60,
-                stdin=subprocess.DEVNULL,
-                env={**os.environ, "PATH": path},
-            )
+            words = [*before, *HINGE, "run", "--quiet", option, "--up", "30ms", "--down", "30ms", "--", *ask]
+            done = outcome(words, stdin=subprocess.DEVNULL, env={**os.environ, "PATH": path})
         self.assertEqual(done.stderr, "")
         return done.stdout
 

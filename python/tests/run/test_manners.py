@@ -12,7 +12,7 @@ import tempfile
 from typing import Any, Optional
 
 from hinge.run.users import Subordinate, mapping, subordinate
-from linked import HINGE, audited_as_lawful, found, hinge, matching, needs, needs_mounts, needs_rooms, run, until
+from linked import HINGE, audited_as_lawful, found, hinge, matching, needs, needs_mounts, needs_rooms, outcome, run, until
 from with_folder import WithFolder
 
 
@@ -57,8 +57,7 @@ class OfServers(WithFolder):
     def test_a_signal_while_it_is_waited_for(self) -> None:
         ready = self.folder / "ready"
         begun = subprocess.Popen(
-            [*HINGE, "run", "--server", f"touch {ready}; sleep 77", "--server-wait", "1h", "--", "true"],
-            stderr=subprocess.DEVNULL,
+            [*HINGE, "run", "--server", f"touch {ready}; sleep 77", "--server-wait", "1h", "--", "true"], stderr=subprocess.DEVNULL
         )
         until(ready.exists)
         begun.send_signal(signal.SIGTERM)
@@ -69,12 +68,7 @@ class OfServers(WithFolder):
 class OfStreams(WithFolder):
     def test_closed_ones_are_nothing(self) -> None:
         for closed in ("<&-", ">&-", "2>&-", "<&- >&- 2>&-"):
-            done = subprocess.run(
-                ["sh", "-c", f'"$@" {closed}', "sh", *HINGE, "run", "--quiet", "--", "sh", "-c", "exit 3"],
-                capture_output=True,
-                text=True,
-                timeout=60,
-            )
+            done = outcome(["sh", "-c", f'"$@" {closed}', "sh", *HINGE, "run", "--quiet", "--", "sh", "-c", "exit 3"])
             assert (done.returncode, done.stdout, done.stderr) == (3, "", ""), closed
 
 
@@ -182,9 +176,7 @@ class OfUsers(WithFolder):
             file.write(given)
             file.flush()
             os.chmod(file.name, 0o644)
-            return subprocess.run(
-                [*AS_A_USER, file.name, *words], capture_output=True, text=True, cwd="/", timeout=60, stdin=subprocess.DEVNULL
-            )
+            return outcome([*AS_A_USER, file.name, *words], cwd="/", stdin=subprocess.DEVNULL)
 
     def run_of(self, given: str, server: str, *command: str) -> str:
         done = self.as_a_user(given, *HINGE, "run", "--quiet", "--server", server, "--server-wait", "3s", "--", *command)
@@ -202,13 +194,7 @@ class OfUsers(WithFolder):
             file.flush()
             os.chmod(file.name, 0o644)
             same = AS_A_USER[:-1] + [AS_A_USER[-1].replace('mount --bind "$0" /etc/subgid', "true")]
-            done = subprocess.run(
-                [*same, file.name, *HINGE, "run", "--quiet", "--", "cat", "/proc/self/gid_map"],
-                capture_output=True,
-                text=True,
-                cwd="/",
-                timeout=60,
-            )
+            done = outcome([*same, file.name, *HINGE, "run", "--quiet", "--", "cat", "/proc/self/gid_map"], cwd="/")
         assert (done.returncode, done.stdout.split()) == (0, ["65534", "65534", "1"]), done.stderr
 
     def test_hosts_of_a_net(self) -> None:

@@ -13,7 +13,7 @@ import pytest
 from hinge.border.asking import ask, is_answered
 from hinge.run.outside import GATEWAY, Outside
 from in_a_folder import InAFolder
-from linked import HINGE, found, hinge, matching, needs, needs_rooms, until, web_server
+from linked import HINGE, found, hinge, matching, needs, needs_rooms, outcome, until, web_server
 
 PING = "ping -c 1 -W 5 -q"
 
@@ -150,15 +150,9 @@ class OfCommands(InAFolder):
     def test_a_shell_is_the_main_command(self) -> None:
         told = self.folder / "told"
         self.file.write_text(f"host a echo on >> {told}; exec sleep 100\nmain b echo main >> {told}\nlink a b\n")
-        words = [*HINGE, "net", str(self.file), "--quiet", "--no-realtime", "--shell"]
-        env = {**os.environ, "SHELL": "/bin/sh"}
-        done = subprocess.run(
-            [*words, "a"],
-            capture_output=True,
-            text=True,
-            env=env,
-            input=f"until [ -s {told} ]; do sleep 0.01; done; hostname; echo $HINGE_HOST; exit 6",
-        )
+        words = [*HINGE, "net", self.file, "--quiet", "--no-realtime", "--shell", "a"]
+        typed = f"until [ -s {told} ]; do sleep 0.01; done; hostname; echo $HINGE_HOST; exit 6"
+        done = outcome(words, input=typed, env={**os.environ, "SHELL": "/bin/sh"})
         assert (done.returncode, done.stdout, done.stderr, told.read_text()) == (6, "a\na\n", "", "on\n")
         assert hinge("net", self.file, "--shell", "z").stderr == f"hinge net: --shell z: no host of {self.file}\n"
 
@@ -189,7 +183,7 @@ class OfCommands(InAFolder):
         os.close(read_end)
         assert "argument --while-open: '77' isn't an open descriptor" in hinge("net", self.file, "--while-open", "77").stderr
         assert (
-            "hinge net: --stay, --while-open: nobody can end a machine of its own; simulated time ends with its" " commands\n"
+            "hinge net: --stay, --while-open: nobody can end a machine of its own; simulated time ends with its commands\n"
         ) == hinge("net", self.file, "--stay", "--simulated").stderr
 
     def test_without_a_main_command_it_is_over_when_all_are(self) -> None:

@@ -45,14 +45,8 @@ class InAFolder(WithFolder):
 class OfNets(InAFolder):
     def test_commands_on_hosts(self) -> None:
         net = self.two()
-        done = net.run(
-            "a",
-            "hostname; cat; echo $HINGE_HOST $X >&2; exit 3",
-            check=False,
-            input="said\n",
-            env={**os.environ, "X": "x"},
-            cwd=self.folder,
-        )
+        how = {"check": False, "input": "said\n", "env": {**os.environ, "X": "x"}, "cwd": self.folder}
+        done = net.run("a", "hostname; cat; echo $HINGE_HOST $X >&2; exit 3", **how)
         assert (done.returncode, done.stdout, done.stderr) == (3, "a\nsaid\n", "a x\n")
         assert net.run("b", ["sh", "-c", "pwd; printf '%s' \"$1\"", "sh", "a  b"], cwd="/").stdout == "/\na  b"
         with self.assertRaisesRegex(CommandFailed, "^a: echo out; false: status 1\nout$"):

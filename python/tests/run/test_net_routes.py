@@ -56,8 +56,7 @@ class OfRoutes(InAFolder):
         done = self.logged(
             "host b\nrouter r ip route add unreachable 10.78.0.0/24; ip tuntap add own mode tun; cat /proc/sys/net/ipv4/conf/own/forwarding; exec sleep 1000\n"
             "main a ip route add 10.77.0.0/24 dev to-r; ping -q -c 3 -i 0.2 -W 1 10.77.0.1; ping -q -c 2 -i 0.2 -W 1 -M do -s 1400 b;"
-            " ip route add 10.78.0.0/24 dev to-r; ping -q -c 3 -i 0.2 -W 1 10.78.0.1\n"
-            "link a r 1ms\nlink r b 1ms\nmtu r b 1300\n"
+            " ip route add 10.78.0.0/24 dev to-r; ping -q -c 3 -i 0.2 -W 1 10.78.0.1\nlink a r 1ms\nlink r b 1ms\nmtu r b 1300\n"
         )
         assert self.summary()["unforwarded"] == {"r": {"IpInNoRoutes": 3, "IpFragFails": 1}}, done.stderr
         assert "r: 4 packets weren't forwarded (IpInNoRoutes 3, IpFragFails 1)\n" in done.stderr

@@ -47,15 +47,8 @@ class Words(unittest.TestCase):
     def test_rules_that_are_wrong(self) -> None:
         plan = Plan()
         plan.link("pipe 1 config")
-        for rule in (
-            "tcp",
-            "=> queue x",
-            "tcp => queue 1",
-            "tcp port => pipe 1",
-            "foo => pipe 1",
-            "port 9-1 => pipe 1",
-            "dst 10.0.0.0/33 => pipe 1",
-        ):
+        rules = "tcp|=> queue x|tcp => queue 1|tcp port => pipe 1|foo => pipe 1|port 9-1 => pipe 1|dst 10.0.0.0/33 => pipe 1"
+        for rule in rules.split("|"):
             self.assertRaises(Wrong, plan.rule, rule)
 
     def test_losses_that_are_wrong(self) -> None:

@@ -25,22 +25,9 @@ class Traces(OfFiles):
             assert self.rates(text) == found
 
     def test_what_is_no_trace_is_told_by_its_line(self) -> None:
-        for text in (
-            "-,5\n",
-            "inf,5\n",
-            "-1,5\n",
-            "0,inf\n",
-            "0,nan\n",
-            "0,1e300\n",
-            "1e300,5\n",
-            "0,-1\n",
-            "0,5,6\n",
-            "0,5\nx,y\n",
-            "2,1\n1,1\n",
-            "1\n2,3\n",
-            "a\nb\n",
-        ):
-            self.assertRaises(Wrong, self.rates, text)
+        texts = "-,5|inf,5|-1,5|0,inf|0,nan|0,1e300|1e300,5|0,-1|0,5,6|0,5\nx,y|2,1\n1,1|1\n2,3|a\nb"
+        for text in texts.split("|"):
+            self.assertRaises(Wrong, self.rates, f"{text}\n")
         self.assertRaisesRegex(Wrong, "line 2: not of the form", self.rates, "0,5\nx,y\n")
         self.assertRaisesRegex(Wrong, "isn't UTF-8", self.rates, b"0,5\n\xff,5\n")
         self.assertRaisesRegex(Wrong, "no rows of a trace", self.rates, "# nothing\n")

@@ -38,11 +38,10 @@ class OfTcp(Behind):
         self.assertEqual(done.returncode, 0, done.stdout + done.stderr)
         return megabits(done.stdout)
 
-    def test_reno_fills_the_link(self) -> None:
-        self.assertAlmostEqual(self.rate("reno") / (10 * PAYLOAD), 1, delta=TOLERANCE)
-
-    def test_cubic_fills_the_link(self) -> None:
-        self.assertAlmostEqual(self.rate("cubic") / (10 * PAYLOAD), 1, delta=TOLERANCE)
+    def test_reno_and_cubic_fill_the_link(self) -> None:
+        for control in ("reno", "cubic"):
+            with self.subTest(control):
+                self.assertAlmostEqual(self.rate(control) / (10 * PAYLOAD), 1, delta=TOLERANCE)
 
 
 @needs_rooms
@@ -82,14 +81,8 @@ class OfSsh(Behind):
             f" -c' <{self.folder}/data"
         )
         begun = time.monotonic()
-        done, told = self.summary(
-            *shlex.split(f"--up '2Mbit/s 30ms' --down '2Mbit/s 40ms' --transcript {self.folder}/h --server"),
-            serve,
-            "--",
-            "sh",
-            "-c",
-            ask,
-        )
+        words = shlex.split(f"--up '2Mbit/s 30ms' --down '2Mbit/s 40ms' --transcript {self.folder}/h --server")
+        done, told = self.summary(*words, serve, "--", "sh", "-c", ask)
         with open(f"{self.folder}/log") as log:
             self.assertEqual((done.returncode, done.stdout.split()), (0, ["42-there", "100000"]), done.stderr + log.read())
         self.assertGreater(time.monotonic() - begun, 0.4 + 2 * 0.07)

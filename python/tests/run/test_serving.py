@@ -43,16 +43,7 @@ class OfServers(WithFolder):
     def test_no_refusal_of_the_system_ends_it(self) -> None:
         for call in ("accept", "recv", "send"):
             usual = getattr(socket.socket, call)
-            for number in (
-                *SHORT,
-                errno.ECONNABORTED,
-                errno.EINTR,
-                errno.EPERM,
-                errno.EPROTO,
-                errno.EPIPE,
-                errno.EIO,
-                errno.ECONNRESET,
-            ):
+            for number in (*SHORT, *map(errno.__dict__.get, "ECONNABORTED EINTR EPERM EPROTO EPIPE EIO ECONNRESET".split())):
                 left = [OSError(number, ""), MemoryError()]
 
                 def refused(line: socket.socket, *rest: object) -> object:

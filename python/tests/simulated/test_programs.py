@@ -113,8 +113,7 @@ DOWNLOADS = """head -c 100000 /dev/urandom > data
                curl -s -w '%{time_total} %{local_port}' http://server:8080/data | cksum"""
 REDIS = "redis-server --port 7000 --save '' --bind 10.8.0.2 --protected-mode no >/dev/null"
 ASKS_REDIS = (
-    "redis='redis-cli -h server -p 7000'; for i in 1 2 3 4 5; do $redis incr n; $redis time; done; "
-    "$redis info server | grep run_id"
+    "redis='redis-cli -h server -p 7000'; for i in 1 2 3 4 5; do $redis incr n; $redis time; done; $redis info server | grep run_id"
 )
 SAME = (
     r"^hinge run: two runs by seed 7 are the same: \d+ bytes of standard output, 0 bytes of standard error, "
