@@ -1,7 +1,5 @@
 """Three small protocols in which a bug is planted by its name, as tests of faults find them; without a name they are right."""
 
-from __future__ import annotations
-
 import asyncio
 import struct
 from typing import Optional

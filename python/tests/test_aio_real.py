@@ -1,7 +1,5 @@
 """Effects that a run leaves in modules imported meanwhile, and real calls that are refused or reported."""
 
-from __future__ import annotations
-
 import asyncio
 import faulthandler
 import importlib
@@ -13,7 +11,6 @@ import sys
 import threading
 import time
 import unittest
-from pathlib import Path
 from textwrap import dedent
 from typing import Any, Callable
 from unittest import mock
@@ -23,8 +20,7 @@ import pytest
 from hingetulip import aio
 from hingetulip.aio import simulated
 from hingetulip.aio.refusals import OF_C
-
-TOP = Path(__file__).resolve().parents[2]
+from simulated_hosts import TOP
 
 
 def run_alone(text: str) -> subprocess.CompletedProcess[str]:

@@ -1,15 +1,12 @@
 """Names of hosts and sockets bound to them, and groups of multicast."""
 
-from __future__ import annotations
-
 import asyncio
 import socket
 import unittest
 from typing import Any
 
 from hingetulip import aio
-from simulated_hosts import Ends, opened
-from simulated_sockets import ONE, ONE_OF_6, OTHER, OTHER_OF_6, both, on, udp
+from simulated_hosts import ONE, ONE_OF_6, OTHER, OTHER_OF_6, Ends, both, on, opened, udp
 
 
 class Groups(unittest.TestCase):

@@ -1,12 +1,11 @@
 """Captures for the tests, written byte by byte, with the packets that are in them."""
 
-from __future__ import annotations
-
 import socket
 import struct
 import subprocess
 from dataclasses import dataclass
 from pathlib import Path
+from typing import Optional
 
 from hinge.captures.capture_file import write_frame, write_header
 
@@ -27,7 +26,7 @@ class Expected:
     length: int
 
 
-def ip4(src: str, dst: str, proto: int, payload: bytes, fragment: int = 0, length: int | None = None) -> bytes:
+def ip4(src: str, dst: str, proto: int, payload: bytes, fragment: int = 0, length: Optional[int] = None) -> bytes:
     """An IPv4 packet; its header may say another length, as that of a segment which the card was still to cut."""
     total = 20 + len(payload) if length is None else length
     return (
@@ -36,7 +35,7 @@ def ip4(src: str, dst: str, proto: int, payload: bytes, fragment: int = 0, lengt
     )
 
 
-def ip6(src: str, dst: str, following: int, payload: bytes, length: int | None = None) -> bytes:
+def ip6(src: str, dst: str, following: int, payload: bytes, length: Optional[int] = None) -> bytes:
     addresses = b"".join(socket.inet_pton(socket.AF_INET6, address) for address in (src, dst))
     return struct.pack("!IHBB", 6 << 28, len(payload) if length is None else length, following, 64) + addresses + payload
 
@@ -92,8 +91,7 @@ def timed_in_ns(path: Path, frames: list[tuple[int, bytes]]) -> None:
 
 
 def odd_ethernet(path: Path) -> list[Expected]:
-    """Ethernet with tags, PPPoE, IPv6 with an extension header, fragments, segments of length 0, and frames that aren't
-    IP."""
+    """Ethernet with tags, PPPoE, IPv6 with an extension header, fragments, segments of length 0, and frames that aren't IP."""
     first, second = "192.0.2.1", "198.51.100.2"
     extended = struct.pack("!BBHI", 17, 0, 0, 0) + udp(4000, 4001, 60)
     quoted = b"\x03\x03" + bytes(6) + ip4(second, first, 17, udp(9, 10, 0))

@@ -1,7 +1,5 @@
 """Replays to draw, and which of the libraries of pictures are there."""
 
-from __future__ import annotations
-
 from pathlib import Path
 
 import numpy as np

@@ -1,7 +1,5 @@
 """The transcript of a net of two hosts and a router between them, which does what a test says."""
 
-from __future__ import annotations
-
 import heapq
 from typing import Callable, NamedTuple, Optional
 

@@ -1,15 +1,14 @@
 """`hinge check`: lines, rows and histories that people get wrong; what is advised is taken by the program."""
 
-from __future__ import annotations
-
 import re
 import subprocess
 import sys
 import unittest
 from pathlib import Path
+from typing import Union
 
 from fuzz_check import compare
-from kit import TOP, folder, run
+from kit import TOP, folder, recorded, run
 
 from hinge.checks.histories import HistoryRecords, bad_record
 from hinge.checks.rows import HEADER
@@ -102,7 +101,7 @@ ROWS = {
 }
 
 
-def file(name: str, text: str | bytes) -> Path:
+def file(name: str, text: Union[str, bytes]) -> Path:
     path = folder() / name
     path.write_bytes(text if isinstance(text, bytes) else text.encode("latin-1"))
     return path
@@ -292,8 +291,7 @@ class Waits(unittest.TestCase):
 
 class Histories(unittest.TestCase):
     def test_where_a_history_is_wrong(self) -> None:
-        config, packets, path = file("c", "pipe 1 config bw 8Mbit/s\n"), file("p", HEAD + (GOOD + "1\n") * 3), folder() / "h"
-        subprocess.run([dummynet(), "replay", config, packets, "--history", path], stdout=subprocess.DEVNULL, check=True)
+        path = Path(recorded("h", file("c", "pipe 1 config bw 8Mbit/s\n"), file("p", HEAD + (GOOD + "1\n") * 3)))
         text = path.read_text()
         lines = text.splitlines(True)
         assert check(path) == (0, "")

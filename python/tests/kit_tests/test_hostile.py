@@ -1,7 +1,5 @@
 """Histories, packet files and texts that nobody would write: each ends with a line and a status, in time and memory in proportion to its length."""
 
-from __future__ import annotations
-
 import os
 import subprocess
 import sys

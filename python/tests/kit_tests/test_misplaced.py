@@ -1,8 +1,6 @@
 """Words of a command line that belong elsewhere, each answered by the line to type: files of another kind, options of older
 versions, and what people try first."""
 
-from __future__ import annotations
-
 import re
 import shlex
 import shutil

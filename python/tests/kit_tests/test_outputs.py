@@ -1,7 +1,5 @@
 """Outputs of commands: none is an input, under whatever name, and a command that fails leaves the older file."""
 
-from __future__ import annotations
-
 import errno
 import os
 import shutil
@@ -169,7 +167,6 @@ class OfScratch(unittest.TestCase):
     def holder(self) -> tuple[subprocess.Popen[str], Path]:
         """A process with such a folder, and its folder."""
         process = subprocess.Popen([sys.executable, "-c", SCRATCH, str(self.place)], stdout=subprocess.PIPE, text=True)
-        assert process.stdout
         return process, Path(process.stdout.readline().strip())
 
     def ended(self, process: subprocess.Popen[str], number: int) -> int:

@@ -1,7 +1,5 @@
 """The panels of a picture, by what matplotlib was told to draw."""
 
-from __future__ import annotations
-
 import unittest
 from functools import lru_cache
 from pathlib import Path

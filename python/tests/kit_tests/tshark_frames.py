@@ -1,8 +1,6 @@
 """tshark's view of a capture: the IP packet of each frame, from the fields that tshark finds in it. The reader of the
 kit is tried against tshark."""
 
-from __future__ import annotations
-
 import subprocess
 from typing import Iterator, Optional
 
@@ -31,10 +29,8 @@ HEADER_BYTES = {
 }
 DSCP = {"ip": "ip.dsfield.dscp", "ipv6": "ipv6.tclass.dscp"}
 FIELDS = (
-    "frame.time_epoch frame.len frame.protocols "
-    "ip.src ip.dst ip.len ip.hdr_len ip.dsfield.dscp ip.proto ip.frag_offset "
-    "ipv6.src ipv6.dst ipv6.tclass.dscp ipv6.plen ipv6.nxt ipv6.hopopts.nxt ipv6.routing.nxt ipv6.fraghdr.nxt "
-    "ipv6.dstopts.nxt "
+    "frame.time_epoch frame.len frame.protocols ip.src ip.dst ip.len ip.hdr_len ip.dsfield.dscp ip.proto ip.frag_offset "
+    "ipv6.src ipv6.dst ipv6.tclass.dscp ipv6.plen ipv6.nxt ipv6.hopopts.nxt ipv6.routing.nxt ipv6.fraghdr.nxt ipv6.dstopts.nxt "
     "ipv6.fraghdr.offset tcp.hdr_len tcp.srcport tcp.dstport udp.srcport udp.dstport sctp.srcport sctp.dstport "
     "dccp.srcport dccp.dstport"
 ).split()

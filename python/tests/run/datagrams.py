@@ -1,7 +1,5 @@
 """A running `hinge udp`, and datagrams that pass through it in both directions."""
 
-from __future__ import annotations
-
 import contextlib
 import re
 import resource
@@ -25,15 +23,8 @@ class Path:
     def __init__(self, *words: object, files: Optional[int] = None) -> None:
         """With `files`, the process may open at most that many descriptors."""
         limit = (lambda: resource.setrlimit(resource.RLIMIT_NOFILE, (files, files))) if files else None
-        self.process = subprocess.Popen(
-            [*HINGE, "udp", *map(str, words)],
-            text=True,
-            stdin=subprocess.DEVNULL,
-            stdout=subprocess.PIPE,
-            stderr=subprocess.PIPE,
-            preexec_fn=limit,
-        )
-        assert self.process.stdout
+        streams = {"stdin": subprocess.DEVNULL, "stdout": subprocess.PIPE, "stderr": subprocess.PIPE}
+        self.process = subprocess.Popen([*HINGE, "udp", *map(str, words)], text=True, preexec_fn=limit, **streams)
         self.port = int(self.process.stdout.readline().rpartition(":")[2] or 0)
 
     def ended(self) -> tuple[int, str]:

@@ -1,7 +1,5 @@
 """Changes of a running link, and questions to it, through `--control`."""
 
-from __future__ import annotations
-
 import contextlib
 import json
 import os
@@ -19,7 +17,7 @@ from unittest import mock
 
 import pytest
 
-from linked import HINGE, Done, audited_as_lawful, found, hinge, matching, needs, needs_host, needs_rooms, run, until
+from linked import HINGE, Done, audited_as_lawful, found, hinge, matching, needs, needs_host, needs_rooms, outcome, run, until
 from with_folder import WithFolder
 
 from hinge.border.asking import ask
@@ -232,13 +230,7 @@ class OfHosts(InAFolder):
             assert self.exec("c", "--", "/no/such").returncode == 127
             refused = self.exec("d", "--", "true")
             assert (refused.returncode, refused.stderr) == (2, "hinge exec: 'd': no host of this net, which are a, r, c\n")
-            shell = subprocess.run(
-                [*HINGE, "exec", str(self.socket), "r"],
-                input="hostname",
-                capture_output=True,
-                text=True,
-                env={**os.environ, "SHELL": "/bin/sh"},
-            )
+            shell = outcome([*HINGE, "exec", self.socket, "r"], input="hostname", env={**os.environ, "SHELL": "/bin/sh"})
             assert (shell.returncode, shell.stdout) == (0, "r\n"), shell.stderr
         assert self.history.read_text().count("\nc,0,submit,") == 4
 

@@ -3,8 +3,6 @@
 All moments are within the first 100 ns of the links, or of the main command. So the host obeys them in one turn, each
 at its moment, and no clock decides anything."""
 
-from __future__ import annotations
-
 import random
 import re
 from unittest import mock

@@ -1,7 +1,5 @@
 """hinge's answers to other tools' commands and options: each answer is accepted unchanged."""
 
-from __future__ import annotations
-
 import contextlib
 import io
 import os
@@ -66,9 +64,8 @@ def refused(words: list[str]) -> str:
 
 class Lines(unittest.TestCase):
     def test_a_whole_line_gets_a_whole_line_or_why_there_is_none(self) -> None:
-        """Each advised line is accepted unchanged: the parser reads the words after `hinge run`, and the readers of links read
-        the links.
-        """
+        """Each advised line is accepted unchanged: the parser reads the words after `hinge run`, and the readers of links read the
+        links."""
         assert len(FOREIGN) > 100
         for line, wanted in FOREIGN:
             with self.subTest(line):

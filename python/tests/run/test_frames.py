@@ -1,7 +1,5 @@
 """The host as an Ethernet switch between sockets: a frame's outgoing ports, and its row."""
 
-from __future__ import annotations
-
 import socket
 import unittest
 from random import Random

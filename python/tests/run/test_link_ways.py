@@ -1,7 +1,5 @@
 """A link's words mean the same in options, nets, timelines, changes, marks of tests, hingetulip.aio and lines."""
 
-from __future__ import annotations
-
 import re
 import tempfile
 from pathlib import Path

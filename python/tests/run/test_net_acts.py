@@ -1,7 +1,5 @@
 """Acts on the hosts of `hinge net`, and moments counted from the main command's start."""
 
-from __future__ import annotations
-
 import os
 import subprocess
 import sys
@@ -100,9 +98,8 @@ class OfHosts(InAFolder):
         self.assertEqual([one["words"] for one in self.summary()["acts"]], words)
 
     def test_a_stop_of_the_first_process_ends_nothing(self) -> None:
-        """The first process is stopped for longer than its period of a second. Meanwhile the links carry out their acts, and
-        report each moment.
-        """
+        """The first process is stopped for longer than its period of a second. Meanwhile the links carry out their acts, and report
+        each moment."""
         self.file.write_text(
             f"main a echo begun > {self.folder}/told; sleep 2; echo ended\nhost b exec sleep 99\n{TWO.replace('c', 'b')}"
             "at 500ms stop b 300ms\n"

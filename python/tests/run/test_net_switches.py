@@ -1,7 +1,5 @@
 """`hinge net`: a switch forwards packets to groups and broadcasts unchanged, to each other link."""
 
-from __future__ import annotations
-
 import os
 import unittest
 

@@ -1,7 +1,5 @@
 """Jitter and duplicates: a second pass through a pipe with a drawn delay, and a second submission."""
 
-from __future__ import annotations
-
 import shutil
 import tempfile
 import unittest
@@ -107,7 +105,7 @@ class OfPasses(unittest.TestCase):
 
     def test_a_second_pipe_that_was_deleted(self) -> None:
         link = Linked(
-            f"{SEEDS}line pipe 1 config delay 20\nline pipe {FIRST} config\njitter 0 {FIRST} 1 7\nat 0 pipe delete" f" {FIRST}\n"
+            f"{SEEDS}line pipe 1 config delay 20\nline pipe {FIRST} config\njitter 0 {FIRST} 1 7\nat 0 pipe delete {FIRST}\n"
         )
         link.near.send(udp(1))
         until(lambda: link.page.read().ways[0]["no_target"] == 1)
