@@ -8,8 +8,6 @@ and with one. Beside it is asyncio alone, on a clock that jumps: a timer and a c
 hosts, 16,000 endpoints of a host, and what a small test of pytest takes more than an empty one, with its processes.
 """
 
-from __future__ import annotations
-
 import asyncio
 import os
 import resource

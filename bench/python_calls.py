@@ -6,8 +6,6 @@
 Packets of 1,000 bytes, one each 1,000 ns, go to a pipe of 10 Gbit/s and 1 ms, so that 1,000 are under way, and all are collected.
 """
 
-from __future__ import annotations
-
 import sys
 import time
 from array import array

@@ -6,8 +6,6 @@ For each command, which fails by another status than 0 or after 5 s: the seeds b
 native runs; then the seconds to a failure by both, for the table of docs/inside/PERFORMANCE.md.
 """
 
-from __future__ import annotations
-
 import re
 import resource
 import shlex

@@ -8,8 +8,6 @@ run by turns. A figure is the median of the rounds in ns a call over all callers
 Python makes a tenth of the calls.
 """
 
-from __future__ import annotations
-
 import re
 import statistics
 import subprocess

@@ -9,8 +9,6 @@ under coverage.py. It takes gcov and Debian's python3-coverage. With --not-reach
 that no test reaches. It exits 1 if a sum is below a given limit, in percent. A suite that fails counts too.
 """
 
-from __future__ import annotations
-
 import argparse
 import json
 import os

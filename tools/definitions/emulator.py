@@ -1,7 +1,5 @@
 """The content of dn_types' definitions: replies, lawful histories, and the ranges of calls."""
 
-from __future__ import annotations
-
 from collections.abc import Sequence
 from pathlib import Path
 from typing import NamedTuple, Optional

@@ -4,8 +4,6 @@
 definition of specs ends for all arguments. What a definition gives for kept values is computed once.
 """
 
-from __future__ import annotations
-
 from collections.abc import Callable
 from typing import Optional
 

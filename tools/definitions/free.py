@@ -5,8 +5,6 @@ to find it valid. Where a session has other replies by rule Ordered, the program
 says Free.
 """
 
-from __future__ import annotations
-
 import subprocess
 from collections.abc import Iterator, Sequence
 from itertools import chain

@@ -4,8 +4,6 @@ The library makes the calls of sessions, and gets packets that are out of range.
 definitions for C, a packet's call and fate, each call's status, and the moment that an Advance reports.
 """
 
-from __future__ import annotations
-
 import ctypes
 import subprocess
 import sys

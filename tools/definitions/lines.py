@@ -1,7 +1,5 @@
 """Configuration lines by the text of crates/dn_config/specs: the C library reads each as the definitions say."""
 
-from __future__ import annotations
-
 import ctypes
 from collections.abc import Iterator, Sequence
 from functools import cache

@@ -1,7 +1,5 @@
 """Reads equations: recursive descent, with a table of how tightly the signs bind."""
 
-from __future__ import annotations
-
 from syntax import (
     Apply,
     ConsPattern,

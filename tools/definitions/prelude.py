@@ -1,7 +1,5 @@
 """The words of the standard library that specs use, and the signs between two values."""
 
-from __future__ import annotations
-
 from collections.abc import Callable
 from functools import reduce
 from itertools import takewhile

@@ -11,8 +11,6 @@ takes more than ten seconds of the processor, memory or output out of proportion
 built/fuzz, and its seed is printed.
 """
 
-from __future__ import annotations
-
 import argparse
 import contextlib
 import gzip

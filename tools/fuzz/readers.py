@@ -6,8 +6,6 @@ COUNT packet files and COUNT lines are drawn. Each reader's answer is the rows, 
 or wrong at a word. The seed follows from the sources of the readers, or is N, or a new one by `--seed fresh`. It needs cargo.
 """
 
-from __future__ import annotations
-
 import argparse
 import random
 import re

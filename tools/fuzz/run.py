@@ -9,8 +9,6 @@ sanitizers for addresses and undefined behaviour. An input that crashes, hangs f
 built/fuzz. With --keep the kept inputs are those that reach the most with the least bytes. It takes clang and libFuzzer.
 """
 
-from __future__ import annotations
-
 import argparse
 import os
 import re

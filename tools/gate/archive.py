@@ -3,8 +3,6 @@
     python3 tools/gate/archive.py
 """
 
-from __future__ import annotations
-
 import os
 import re
 import tarfile

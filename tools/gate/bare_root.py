@@ -8,8 +8,6 @@ what `rt ci` keeps. The repository is a copy whose release/ has this program and
 `./check --quick` leaves out there is printed, and it may take four minutes of a processor.
 """
 
-from __future__ import annotations
-
 import os
 import re
 import resource

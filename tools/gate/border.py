@@ -7,8 +7,6 @@ one that imports a module which MODULES doesn't list, leaves the place of a temp
 argparse's Namespace, but for commands and the modules that give it options. Lines that do each of this are planted, and must be refused.
 """
 
-from __future__ import annotations
-
 import ast
 from pathlib import Path
 from typing import Iterator

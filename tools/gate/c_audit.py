@@ -8,8 +8,6 @@ examples' replays. c_library/audit.c audits each in parts of some length, with a
 turn. It is compiled with the sanitizers for addresses and undefined behaviour.
 """
 
-from __future__ import annotations
-
 import os
 import subprocess
 from collections import Counter

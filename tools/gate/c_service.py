@@ -10,8 +10,6 @@ threads and with the installed suppressions, reports only a race in the program 
 leaks; tools/gate/senders.py shows that it stays flat.
 """
 
-from __future__ import annotations
-
 import os
 import shutil
 import subprocess

@@ -6,8 +6,6 @@ Each form, each status from 0 to 6, help and version, broken pipes, full devices
 unreadable or folders, lines that end in CR LF, and byte order marks. What is wanted stands here in full, from docs/FILES.md.
 """
 
-from __future__ import annotations
-
 import os
 import shutil
 import subprocess

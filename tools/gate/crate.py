@@ -7,8 +7,6 @@ All is done offline, with the C library of the present sources, as tools/release
 Debian's crates, where they are installed.
 """
 
-from __future__ import annotations
-
 import os
 import re
 import shutil

@@ -7,8 +7,6 @@ It needs cc, for the preload that kills (tools/gate/killed_writes.c). The progra
 Python's service writes a history. A transcript of hinge-link, whose moments are a clock's, is audited alone.
 """
 
-from __future__ import annotations
-
 import itertools
 import subprocess
 import sys

@@ -5,8 +5,6 @@
 In what users import, a function that raises has a docstring.
 """
 
-from __future__ import annotations
-
 import ast
 import re
 from pathlib import Path

@@ -6,8 +6,6 @@
 options compile the programs in these pages, and the page's Python session, its simulation and the module's tests run.
 """
 
-from __future__ import annotations
-
 import os
 import re
 import shutil

@@ -13,8 +13,6 @@ name there, in a commit of its own. So rises of a round can't hide behind its la
 Uncommitted changes count too. With --at only the figures of a commit are printed, for a column of the table in docs/inside/GATE.md.
 """
 
-from __future__ import annotations
-
 import re
 import subprocess
 import sys

@@ -6,8 +6,6 @@ The library and the program are Rattle's: no copy or index of theirs goes out of
 stack. Their tables of functions are read-only, by the linker. The library has no data of a thread, so a handle may pass to another one.
 """
 
-from __future__ import annotations
-
 import re
 import subprocess
 from pathlib import Path

@@ -8,8 +8,6 @@ It needs cc, for a library that answers getentropy in the system's place. The co
 tools/hostile/known_key.py has the keys.
 """
 
-from __future__ import annotations
-
 import os
 import shutil
 import subprocess

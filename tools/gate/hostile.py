@@ -7,8 +7,6 @@ most 9 bytes of memory a byte of a history.
 The instructions are counted by valgrind, so that no other work on the machine matters. tools/hostile writes the inputs.
 """
 
-from __future__ import annotations
-
 import os
 import re
 import subprocess

@@ -6,8 +6,6 @@ The host in C is built anew from the present sources, where there is cc, else th
 that does other work says only that nothing comes early; bench/live_rates.py reports how late a host is.
 """
 
-from __future__ import annotations
-
 import os
 import re
 import shutil

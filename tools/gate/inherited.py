@@ -10,8 +10,6 @@ Each script of the shell that has `cd` begins with FRONT, and the programs in Py
 begin without a blocked or ignored signal.
 """
 
-from __future__ import annotations
-
 import os
 import re
 import resource

@@ -7,8 +7,6 @@ the pages show are run from the installed place, in a folder that has the exampl
 What needs numpy, cmake, pkg-config, dpkg-deb or lintian is skipped, and told, where they aren't there.
 """
 
-from __future__ import annotations
-
 import ctypes
 import itertools
 import os

@@ -8,8 +8,6 @@ the temporary files, sockets and cgroups of a killed process, once the programs 
 themselves. Each command has to write the same bytes twice, since there is no telling else whether a file is whole.
 """
 
-from __future__ import annotations
-
 import argparse
 import ctypes
 import os

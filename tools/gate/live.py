@@ -6,8 +6,6 @@ COUNT random sessions of the seed, with bad lines, comments and questions betwee
 where each answer has to come before the next line; lines that end in CR LF; and lines at the limit of their length.
 """
 
-from __future__ import annotations
-
 import os
 import select
 import subprocess

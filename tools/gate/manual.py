@@ -6,8 +6,6 @@ dummynet(1) names each option and each fault line, and hinge(1) each command of 
 command's help has an example that calls it.
 """
 
-from __future__ import annotations
-
 import re
 import sys
 

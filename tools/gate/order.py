@@ -9,8 +9,6 @@ the same calls with one of them moved behind those that began after it returned.
 The history has no such law (docs/TRUST.md): this is a test of it.
 """
 
-from __future__ import annotations
-
 import subprocess
 from collections.abc import Sequence
 from pathlib import Path

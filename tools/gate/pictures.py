@@ -6,8 +6,6 @@ With --write they are put there. The same version of matplotlib has to draw the 
 time, whose ports may be others, or where another processor rounds otherwise. By another version more may differ.
 """
 
-from __future__ import annotations
-
 import os
 import re
 import shutil

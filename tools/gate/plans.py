@@ -7,8 +7,6 @@ A net in real time has a limit for what is late. One that is void by its own lim
 The seed follows from the sources of the kit and of the hosts, or is N, or a new one by `--seed fresh`.
 """
 
-from __future__ import annotations
-
 import argparse
 import os
 import random

@@ -9,8 +9,6 @@ its first fault, or with the plant's words for a slice of it. With `all`, and wi
 the defect.
 """
 
-from __future__ import annotations
-
 import os
 import shutil
 import stat

@@ -6,8 +6,6 @@ pytest-xdist tries as many files at once as there are processors, if it is there
 passes then, a line names the test; the gate's last lines list all such lines, and more than two are red.
 """
 
-from __future__ import annotations
-
 import os
 import re
 import shutil

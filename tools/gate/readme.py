@@ -8,8 +8,6 @@ digit changed in what the page shows, or one word where numbers don't count, the
 sample is skipped, and told, where the machine lacks what the page says that it needs.
 """
 
-from __future__ import annotations
-
 import os
 import re
 import shlex

@@ -8,8 +8,6 @@ its sources, where this clone keeps what was proved of the crates below it: with
 library's bytes aren't compared.
 """
 
-from __future__ import annotations
-
 import re
 import shutil
 import subprocess

@@ -8,8 +8,6 @@ two pages (`.., N, and of CRATE, N:`). The parts of a sample are joined, in orde
 regard to comments and spaces, and may have `use` lines before it: of names that the files use too. It reads the sources alone.
 """
 
-from __future__ import annotations
-
 import re
 import sys
 from pathlib import Path

@@ -1,7 +1,5 @@
 """A part's form: its count of passed and failed checks, printed as its last line, and the folders from which parts import."""
 
-from __future__ import annotations
-
 import os
 import subprocess
 import sys

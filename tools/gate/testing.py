@@ -6,8 +6,6 @@ Both runs have to write the same histories, byte for byte, where time is simulat
 Python. An example whose package the machine lacks says so. The page's tests of simulated time are run too.
 """
 
-from __future__ import annotations
-
 import os
 import re
 import shutil

@@ -7,8 +7,6 @@ runs, what is told, and what is left when a build fails is tried in seconds. The
 tried through the real ./dummynet.
 """
 
-from __future__ import annotations
-
 import os
 import re
 import resource

@@ -5,8 +5,6 @@
 Writes FILE, the standard input of `dummynet live`. The kinds are the functions of KINDS, each of which says what it makes.
 """
 
-from __future__ import annotations
-
 import argparse
 import sys
 from collections.abc import Callable, Iterator

@@ -11,8 +11,6 @@ has it once and its row holds. A row of laws holds if each law exists and uses a
 word that no law uses, and a row that doesn't hold, fails. So does a clause that docs/TRUST.md doesn't state in its table of laws.
 """
 
-from __future__ import annotations
-
 import re
 import sys
 from pathlib import Path

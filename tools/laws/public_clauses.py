@@ -9,8 +9,6 @@ its crate's lib.rt doesn't export. The last lines count them. The status is 1 if
 new condition (`requires`), or has lost a clause and got none.
 """
 
-from __future__ import annotations
-
 import re
 import subprocess
 import sys

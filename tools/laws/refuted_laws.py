@@ -15,8 +15,6 @@ those names, that it uses.
 The libraries below a crate are built first, where they have changed. With --built they are taken as `rt ci` has just left them.
 """
 
-from __future__ import annotations
-
 import re
 import shutil
 import subprocess

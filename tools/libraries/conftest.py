@@ -1,7 +1,5 @@
 """Each test of a library runs by seeds 1 to `--seeds`."""
 
-from __future__ import annotations
-
 import pytest
 
 

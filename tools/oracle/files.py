@@ -1,7 +1,5 @@
 """The formats of configurations, joined inputs, packet files, reports and faults according to docs/FILES.md."""
 
-from __future__ import annotations
-
 from collections import Counter
 from typing import Iterable, Optional, TypeVar
 

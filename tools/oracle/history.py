@@ -1,7 +1,5 @@
 """The text of a history: a record for each call, with its configuration line in canonical form, and the reply's records."""
 
-from __future__ import annotations
-
 from typing import Iterable
 
 import model

@@ -1,7 +1,5 @@
 """The reader of histories (versions 1 to 3) and of live sessions' transcripts according to docs/FILES.md, and their audit."""
 
-from __future__ import annotations
-
 from dataclasses import fields
 from typing import Callable, TypeVar
 

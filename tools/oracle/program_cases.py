@@ -5,8 +5,6 @@ faulty configurations and faulty packet files, then a quarter as many that ask f
 one caller, and half as many audits of histories. `tools/gate/cases.py` runs a program over them.
 """
 
-from __future__ import annotations
-
 from collections.abc import Iterator
 from dataclasses import dataclass, field
 from io import BytesIO

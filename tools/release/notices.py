@@ -6,8 +6,6 @@ With --check nothing is written, and the last line says whether NOTICE has those
 `dummynet` and `hingetulip_c`, and those that these use, as the toolchain has them: `rt doc` tells where.
 """
 
-from __future__ import annotations
-
 import re
 import subprocess
 import sys
