@@ -207,15 +207,7 @@ def nets(data: bytes, rng: random.Random) -> None:
 
 
 TARGETS: dict[str, Callable[[bytes, random.Random], None]] = {
-    "captures": captures,
-    "control": control,
-    "addresses": addresses,
-    "histories": histories,
-    "summaries": summaries,
-    "nets": nets,
-    "timelines": timelines,
-    "traces": traces,
-    "frames": frames,
+    target.__name__: target for target in (captures, control, addresses, histories, summaries, nets, timelines, traces, frames)
 }
 
 

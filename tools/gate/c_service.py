@@ -31,15 +31,8 @@ from tally import Tally, judge, ran
 MOST_CALLERS = 15
 CALLS = 120  # of a caller
 COMMON = ["-std=c99", "-Wall", "-Wextra", "-Werror", "-g", "-O1", "-fno-sanitize-recover=all", "-pthread"]
-KINDS = {
-    "queued": "queued",
-    "lost": "lost",
-    "full": "full",
-    "no-target": "without target",
-    "no-such-pipe": "refused",
-    "pipe-has-queues": "refused",
-    "no-such-queue": "refused",
-}
+KINDS = {"queued": "queued", "lost": "lost", "full": "full", "no-target": "without target"}
+KINDS.update(dict.fromkeys(("no-such-pipe", "pipe-has-queues", "no-such-queue"), "refused"))
 SUPPRESSIONS = HEADER.parent / "hingetulip.tsan"
 TOLD = ("calls", "queued", "lost", "full", "without target", "delivered", "refused", "shown")
 

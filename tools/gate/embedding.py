@@ -25,19 +25,9 @@ FIRST, LOOP, THREADS, SIMULATION = (EXAMPLES / name for name in ("first.c", "sim
 PROGRAM = os.environ.get("DUMMYNET", TOP / "release" / "dummynet")
 HELPERS = "tests tests/run tests/kit_tests tests/simulated"  # the folders of python/ that pytest searches, without python/ itself
 WARNINGS = ["-Wall", "-Wextra", "-Werror"]
-INSTALLED = [
-    "include/hingetulip.h",
-    "include/hingetulip_service.h",
-    "lib/cmake/Hingetulip/HingetulipConfig.cmake",
-    "lib/cmake/Hingetulip/HingetulipConfigVersion.cmake",
-    "lib/libhingetulip.a",
-    "lib/libhingetulip.so",
-    "lib/libhingetulip.so.1",
-    "lib/pkgconfig/hingetulip.pc",
-    "share/hingetulip/hingetulip.tsan",
-    "share/hingetulip/installed",
-    "share/man/man3/hingetulip.3",
-]
+INSTALLED = """include/hingetulip.h include/hingetulip_service.h lib/cmake/Hingetulip/HingetulipConfig.cmake
+lib/cmake/Hingetulip/HingetulipConfigVersion.cmake lib/libhingetulip.a lib/libhingetulip.so lib/libhingetulip.so.1
+lib/pkgconfig/hingetulip.pc share/hingetulip/hingetulip.tsan share/hingetulip/installed share/man/man3/hingetulip.3""".split()
 AROUND = "#include <hingetulip.h>\n#include <stdio.h>\n#include <string.h>\nint main(void)\n{\n%s\nreturn 0;\n}\n"
 
 

@@ -5,13 +5,8 @@ from typing import Iterable
 import model
 from printing import command_text
 
-NUMBERED_REPLIES = {
-    model.Queued: "queued",
-    model.Lost: "lost",
-    model.Full: "full",
-    model.NoTarget: "no-target",
-    model.Advanced: "advanced",
-}
+NUMBERED = (model.Queued, "queued"), (model.Lost, "lost"), (model.Full, "full"), (model.NoTarget, "no-target")
+NUMBERED_REPLIES = dict([*NUMBERED, (model.Advanced, "advanced")])
 
 
 def address_text(value: int) -> str:
