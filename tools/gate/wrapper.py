@@ -18,7 +18,7 @@ from tempfile import TemporaryDirectory
 
 from tally import TOP, Tally, judge
 
-SCRIPTS = """dummynet build crates.txt HANDLES VERSION LICENSE NOTICE tools/release/program_sources tools/release/build_program.py
+SCRIPTS = """dummynet build crates.txt HANDLES VERSION LICENSE tools/release/program_sources tools/release/build_program.py
 tools/release/link_library.py tools/release/library tools/release/release crates/hingetulip_c/include/hingetulip.h
 crates/hingetulip_c/include/hingetulip_service.h""".split()
 PRETENDED = """#!/bin/sh

@@ -13,7 +13,7 @@ import textwrap
 from pathlib import Path
 
 TOP = Path(__file__).resolve().parents[2]
-NOTICE = TOP / "NOTICE"
+NOTICE = TOP / "release" / "NOTICE"
 SHIPPED = ("dummynet", "hingetulip_c")
 BEGIN = "The program and the C library have code of these crates, as Rattle's toolchain has them"
 LICENCES = ("LICENSE-MIT", "LICENSE", "LICENSE-APACHE")  # of several, the first that is there
