@@ -102,7 +102,7 @@ def tried(tally: Tally, name: str, made: Path, place: Path, audit: str, calls: l
     history = place / "history"
     done = ran(made, history, *calls, errors="replace")
     text = history.read_text()
-    tally.equal(f"{name}: what the callers were told", (0, wanted(text, len(calls))), (done.returncode, done.stdout))
+    tally.ends(f"{name}: what the callers were told", done, 0, wanted(text, len(calls)))
     entries = sum(one["calls"] for one in told_by(text).values())
     judged = ran(audit, "audit", history)
     tally.equal(f"{name}: the audit", f"lawful {entries}", judged.stdout.strip())

@@ -242,11 +242,7 @@ def texts(tally: Tally, program: str) -> None:
         done = run(program, replay("--most-packets", "9", "--callers", "2"), folder, "")
         tally.equal("the words of a limit of callers", LIMITED, done.stderr.decode()[: len(LIMITED)])
         done = run(program, [os.fsdecode(b"\xff")], folder, "")
-        tally.equal(
-            "an argument that isn't UTF-8",
-            (2, b"", b"error: an argument isn't UTF-8\n"),
-            (done.returncode, done.stdout, done.stderr),
-        )
+        tally.ends("an argument that isn't UTF-8", done, 2, b"", b"error: an argument isn't UTF-8\n")
 
 
 def devices(tally: Tally, program: str) -> None:
@@ -270,9 +266,9 @@ def devices(tally: Tally, program: str) -> None:
             done = run(program, [word], folder, "", stdout=full)
             tally.equal(f"{word} to a full device", (0, b""), (done.returncode, done.stderr))
         done = run(program, ["replay", "none", "p"], folder, "", stderr=full)
-        tally.equal("a fault line to a full device", (6, b""), (done.returncode, done.stdout))
+        tally.ends("a fault line to a full device", done, 6, b"")
         done = subprocess.run(["sh", "-c", 'ulimit -s 160; exec "$0" replay c p', program], cwd=folder, capture_output=True)
-        tally.equal("160 Kbytes of stack", (0, REPORT.encode(), b""), (done.returncode, done.stdout, done.stderr))
+        tally.ends("160 Kbytes of stack", done, 0, REPORT.encode(), b"")
         done = run(program, replay("--history", "/dev/stdout"), folder, "")
         tally.equal("a history after the report in one pipe", (REPORT + HISTORY).encode(), done.stdout)
         with open(Path(folder) / "both", "wb") as both:
@@ -284,9 +280,7 @@ def devices(tally: Tally, program: str) -> None:
         )
         for name, form, begun in (("", "", b""), (" of a live session", "live", b"dummynet-live,1\n")):
             done = subprocess.run(["sh", "-c", f'exec "$0" {form} <&-', program], cwd=folder, capture_output=True)
-            tally.equal(
-                f"standard input{name} closed", (6, begun, b"cannot read input\n"), (done.returncode, done.stdout, done.stderr)
-            )
+            tally.ends(f"standard input{name} closed", done, 6, begun, b"cannot read input\n")
 
 
 def short_writes(tally: Tally, program: str) -> None:

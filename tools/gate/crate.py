@@ -154,7 +154,7 @@ def words_of_python(tally: Tally) -> None:
 
 def as_in_python(tally: Tally, user: Path, done: Ran) -> None:
     told = ran(sys.executable, "-c", IN_PYTHON, cwd=user, env={**os.environ, "PYTHONPATH": str(TOP / "python")}, stderr=None)
-    tally.equal("the report of a program over the packed crate", (0, told.stdout), (done.returncode, done.stdout))
+    tally.ends("the report of a program over the packed crate", done, 0, told.stdout)
     if done.returncode == 0 and told.returncode == 0:
         same = (user / "rust.history").read_bytes() == (user / "python.history").read_bytes()
         tally.note("its history", "" if same else "isn't Python's")

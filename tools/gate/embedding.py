@@ -69,33 +69,29 @@ def from_c(tally: Tally, prefix: Prefix) -> None:
     tally.equal("the page's C program is examples/embed/first.c", FIRST.read_text(), first)
     for source in (FIRST, LOOP):
         done = prefix.built(source, *WARNINGS)
-        tally.equal(f"examples/embed/{source.name}", (0, printed_after(f"./{source.stem}")), (done.returncode, done.stdout))
+        tally.ends(f"examples/embed/{source.name}", done, 0, printed_after(f"./{source.stem}"))
     done = prefix.built(THREADS, *WARNINGS, "-pthread")
-    tally.equal("examples/embed/threads.c", (0, printed_after("./threads")), (done.returncode, done.stdout))
+    tally.ends("examples/embed/threads.c", done, 0, printed_after("./threads"))
     done = prefix.run(PROGRAM, "audit", "threads.history")
     tally.equal("the history of threads.c", printed_after("dummynet audit"), done.stdout)
     example = re.search(r"^\.Bd -literal[^\n]*\n(.*?)^\.Ed", MANUAL.read_text(), re.M | re.S)
     source = prefix.place / "example.c"
     source.write_text(AROUND % (example[1] if example else "").replace("\\e", "\\"))
     done = prefix.built(source, *WARNINGS)
-    tally.equal(
-        "the example of hingetulip(3)",
-        (0, "packet 0 left at 21000 us\npacket 1 left at 22000 us\n"),
-        (done.returncode, done.stdout),
-    )
+    tally.ends("the example of hingetulip(3)", done, 0, "packet 0 left at 21000 us\npacket 1 left at 22000 us\n")
     [sample] = blocks("c", README.read_text())
     source.write_text(AROUND % (sample.replace("#include <hingetulip.h>\n", "") + 'printf("%d\\n", fate.outcome == DN_QUEUED);'))
     done = prefix.built(source, *WARNINGS)
-    tally.equal("the sample of the README of hingetulip_c", (0, "1\n"), (done.returncode, done.stdout))
+    tally.ends("the sample of the README of hingetulip_c", done, 0, "1\n")
 
 
 def from_python(tally: Tally, prefix: Prefix) -> None:
     session = prefix.place / "session"
     session.write_text("\n".join(blocks("python")))
     done = prefix.run(sys.executable, "-m", "doctest", session)
-    tally.equal("the page's Python session", (0, ""), (done.returncode, done.stdout))
+    tally.ends("the page's Python session", done, 0, "")
     done = prefix.run(sys.executable, SIMULATION)
-    tally.equal("the page's simulation", (0, printed_after("aimd.py")), (done.returncode, done.stdout))
+    tally.ends("the page's simulation", done, 0, printed_after("aimd.py"))
     # The prefix has the module, and the clone hinge, whose plugin of pytest is tried too.
     env = {**prefix.env, "PYTHONPATH": f"{prefix.env['PYTHONPATH']}:{TOP / 'python'}"}
     pytests.count(

@@ -44,7 +44,7 @@ def tests(tally: Tally, program: str, folder: Path) -> None:
     env = environment(program, folder)
     if shutil.which("cc"):
         done = ran(TOP / "tools" / "release" / "hosts", folder, is_apart=True)
-        tally.equal("tools/release/hosts", (0, f"{folder.resolve()}/hinge-link\n", ""), (done.returncode, done.stdout, done.stderr))
+        tally.ends("tools/release/hosts", done, 0, f"{folder.resolve()}/hinge-link\n", "")
     pytests.count(tally, ["tests/run"], env, *(f"--ignore={plan}" for plan in pytests.PLANS))
 
 
@@ -133,7 +133,7 @@ def page(tally: Tally, program: str, folder: Path) -> None:
     text = (TOP / "docs" / "FILES.md").read_text()
     [(source, printed)] = re.findall(r"\$ ./dummynet live <<END\n(.*?)END\n(.*?)```", text, re.S)
     done = ran(program, "live", input=source, is_apart=True)
-    tally.equal("the session without a clock", (0, printed, ""), (done.returncode, done.stdout, done.stderr))
+    tally.ends("the session without a clock", done, 0, printed, "")
 
 
 CUT = """dummynet-live,1
@@ -154,7 +154,7 @@ def cut(tally: Tally, program: str, folder: Path) -> None:
     done = ran("sh", "-c", f"{command} session.history > front.history", cwd=folder, is_apart=True)
     tally.equal("the page's command for a cut transcript", (0, ""), (done.returncode, done.stderr))
     done = ran(program, "audit", folder / "front.history")
-    tally.equal("the audit of its whole entries", (0, "lawful 2\n"), (done.returncode, done.stdout))
+    tally.ends("the audit of its whole entries", done, 0, "lawful 2\n")
 
 
 def in_c(tally: Tally, program: str, folder: Path) -> None:

@@ -46,6 +46,10 @@ class Tally:
     def equal(self, name: str, wanted: object, got: object) -> None:
         self.note(name, "" if wanted == got else f"want {wanted!r}, got {got!r}")
 
+    def ends(self, name: str, done: subprocess.CompletedProcess[Any], *wanted: object) -> None:
+        """Compares a command's status, and its output and errors if they are given too."""
+        self.equal(name, wanted, (done.returncode, done.stdout, done.stderr)[: len(wanted)])
+
     def end(self) -> int:
         """Prints the failures again in short, and the last line; returns the status. A part without checks fails."""
         if not self.passed and not self.failed:

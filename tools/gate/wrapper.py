@@ -106,9 +106,7 @@ def which_program(tally: Tally, copy: Copy) -> None:
     """Checks which program runs: the release's, then the one built here."""
     copy.release(copy.sources())
     done = copy.run("a", "b c", has_rt=False)
-    tally.equal(
-        "a release of these sources needs no toolchain", (0, "release a b c\n", ""), (done.returncode, done.stdout, done.stderr)
-    )
+    tally.ends("a release of these sources needs no toolchain", done, 0, "release a b c\n", "")
     done = copy.run(script="build")
     tally.equal("./build builds beside a release", 0, done.returncode)
     tally.equal(
@@ -118,9 +116,7 @@ def which_program(tally: Tally, copy: Copy) -> None:
     told = re.findall(rf"(?m)^dummynet: \d+ of {count} crates built \(\w+\), \d+\.\d minutes$", done.stderr)
     tally.equal("./build tells of each crate", count, len(told))
     done = copy.run("x", has_rt=False)
-    tally.equal(
-        "the program that was built goes before the release", (0, "built x\n", ""), (done.returncode, done.stdout, done.stderr)
-    )
+    tally.ends("the program that was built goes before the release", done, 0, "built x\n", "")
     for crate in ("dn_types/src/lib.rt", "dummynet/src/main.rt"):
         os.utime(copy.top / "crates" / crate)
     copy.change("crates/dn_link/src/lib.rt", "// A comment.")
@@ -154,13 +150,13 @@ def stale(tally: Tally, copy: Copy) -> None:
     done = copy.run("x", fails="dummynet")
     tally.equal("a failed build of the program itself", (70, before), (done.returncode, copy.built()))
     done = copy.run("x y")
-    tally.equal("a stale release and program are replaced", (0, "built x y\n"), (done.returncode, done.stdout))
+    tally.ends("a stale release and program are replaced", done, 0, "built x y\n")
     tally.note("one program is left", "" if len(copy.built()) == 1 and copy.built() != before else f"got {copy.built()}")
     tally.equal("nothing is left among the temporary files", [], list(copy.temporary.iterdir()))
     shutil.rmtree(copy.top / "release")
     shutil.rmtree(copy.top / "built")
     done = copy.run("x")
-    tally.equal("neither release nor program", (0, "built x\n"), (done.returncode, done.stdout))
+    tally.ends("neither release nor program", done, 0, "built x\n")
 
 
 def few_processes(tally: Tally, copy: Copy) -> None:
@@ -196,7 +192,7 @@ def released(tally: Tally, copy: Copy) -> None:
     tally.equal("tools/release/release", 0, done.returncode)
     tally.equal("its sources", copy.sources(), (copy.top / "release" / "sources").read_text())
     done = subprocess.run(["sha256sum", "-c", "--quiet", "SHA256SUMS"], cwd=copy.top / "release", capture_output=True, text=True)
-    tally.equal("its checksum", (0, ""), (done.returncode, done.stdout))
+    tally.ends("its checksum", done, 0, "")
     copy.change("crates/dummynet/src/main.rt")
     done = copy.run(script="tools/release/release")
     tally.note("no release of what isn't built", "" if done.returncode == 1 and "isn't built" in done.stderr else f"got {done}")
