@@ -14,7 +14,7 @@ from pathlib import Path
 from tempfile import TemporaryDirectory
 from typing import Optional
 
-from tally import Tally, judge
+from tally import Tally, judge, lacks
 
 HEADER = "moment,target,number,src,dst,proto,sport,dport,len,word\n"
 ROW = "0,pipe,1,10.0.0.1,10.0.0.2,17,1000,2000,1000,0\n"
@@ -350,8 +350,7 @@ def links(tally: Tally, program: str) -> None:
 def rights(tally: Tally, program: str) -> None:
     """Files that may not be read or written, by a user to whom that matters."""
     drop = ["setpriv", "--reuid=65534", "--regid=65534", "--clear-groups"] if os.geteuid() == 0 else []
-    if drop and shutil.which(drop[0]) is None:
-        print("rights of files: skipped, since there is no setpriv on the path")
+    if lacks("rights of files", *drop[:1]):
         return
     with TemporaryDirectory() as folder:
         os.chmod(folder, 0o755)

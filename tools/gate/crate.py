@@ -14,7 +14,7 @@ import sys
 import tarfile
 from pathlib import Path
 
-from tally import TOP, Ran, Tally, judge, ran
+from tally import TOP, Ran, Tally, judge, lacks, ran
 
 from hingetulip_words.link import Place, WordError, read_words
 
@@ -106,8 +106,7 @@ def of_the_sources(tally: Tally, cargo: Cargo, crate: Path, library: str, *optio
     tally.note(f"cargo test of {crate.name}", "" if done.returncode == 0 and len(counts) == binaries else done.stdout)
     tally.passed += sum(map(int, counts))
     for name, *words in (("cargo doc", "doc", "--no-deps"), ("cargo clippy", "clippy", "--all-targets")):
-        if words[0] == "clippy" and shutil.which("cargo-clippy") is None:
-            print("clippy: skipped, since it isn't on the path")
+        if words[0] == "clippy" and lacks("clippy", "cargo-clippy"):
             continue
         done = cargo.run(crate, *words, *options, HINGETULIP_LIB=library)
         tally.note(f"{name} of {crate.name}", "" if done.returncode == 0 else done.stdout)

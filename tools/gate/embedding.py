@@ -15,7 +15,7 @@ from pathlib import Path
 from tempfile import TemporaryDirectory
 
 import pytests
-from tally import TOP, Ran, Tally, judge, ran
+from tally import TOP, Ran, Tally, judge, lacks, ran
 
 PAGE = (TOP / "docs" / "EMBEDDING.md").read_text()
 MANUAL = TOP / "docs" / "hingetulip.3"
@@ -124,10 +124,8 @@ def tried(tally: Tally, folder: Path, place: Path) -> None:
         sorted(INSTALLED + module + module_pages),
         sorted(str(it.relative_to(folder)) for it in folder.rglob("*") if not it.is_dir()),
     )
-    if shutil.which("pkg-config"):
+    if not lacks("the programs in C", "pkg-config"):
         from_c(tally, prefix)
-    else:
-        print("the programs in C: skipped, since there is no pkg-config on the path")
     from_python(tally, prefix)
     manual(tally, prefix)
 

@@ -17,7 +17,7 @@ from pathlib import Path
 from socket import AF_INET, SOCK_DGRAM, socket
 
 import pytests
-from tally import TOP, Tally, judge, ran
+from tally import TOP, Tally, judge, lacks, ran
 
 LIVE = TOP / "examples" / "live"
 HINGE = TOP / "hinge"
@@ -51,9 +51,7 @@ def tests(tally: Tally, program: str, folder: Path) -> None:
 def nets(tally: Tally, program: str, folder: Path) -> None:
     """Runs examples/net: each with its programs' results, its links' audit, and its hosts' audit."""
     for name, (needed, last_line) in NETS.items():
-        if shutil.which(needed) is None:
-            print(f"the net {name}: skipped, since there is no {needed} on the path")
-        else:
+        if not lacks(f"the net {name}", needed):
             net(tally, program, folder, name, last_line)
 
 
@@ -160,8 +158,7 @@ def cut(tally: Tally, program: str, folder: Path) -> None:
 def in_c(tally: Tally, program: str, folder: Path) -> None:
     """Runs bench/live.c, a session with session.h: of 1,000 packets at 0, 0.1 .. 99.9 ms that take 5.08 ms each, 51 don't arrive in
     time."""
-    if shutil.which("cc") is None:
-        print("a session in C: skipped, since there is no cc on the path")
+    if lacks("a session in C", "cc"):
         return
     done = ran(*STRICT, "-o", folder / "live", TOP / "bench" / "live.c", is_apart=True)
     tally.equal("live.c compiled", (0, ""), (done.returncode, done.stderr))
@@ -199,8 +196,7 @@ LINES = [  # a configuration line as a file has it, and what a host by session.h
 
 def lines_in_c(tally: Tally, program: str, folder: Path) -> None:
     """Checks that lines of every kind are told apart, without waiting."""
-    if shutil.which("cc") is None:
-        print("configuration lines of a session in C: skipped, since there is no cc on the path")
+    if lacks("configuration lines of a session in C", "cc"):
         return
     done = ran(*STRICT, "-o", folder / "lines", TOP / "tools" / "gate" / "session_lines.c", is_apart=True)
     tally.equal("session_lines.c compiled", (0, ""), (done.returncode, done.stderr))

@@ -18,7 +18,7 @@ from hashlib import sha256
 from pathlib import Path
 from typing import Iterator, Optional
 
-from tally import TOP, Ran, Tally, judge, ran
+from tally import TOP, Ran, Tally, judge, lacks, ran
 from version import found, spelled
 
 VERSION = (TOP / "VERSION").read_text().strip()
@@ -85,8 +85,7 @@ def copied(place: Path, program: str) -> Path:
 
 def with_hosts(tally: Tally, copy: Path) -> None:
     """The programs in C that hinge runs, in the copy's release, where there is a compiler."""
-    if shutil.which("cc") is None:
-        print("hinge-link, hinge-packets and hinge-clock.so: skipped, since there is no cc on the path")
+    if lacks("hinge-link, hinge-packets and hinge-clock.so", "cc"):
         return
     done(tally, "tools/release/hosts release", copy / "tools" / "release" / "hosts", "release")
 
@@ -254,8 +253,7 @@ def glibc(tally: Tally, copy: Path, place: Path) -> None:
 
 
 def with_cmake(tally: Tally, prefix: Path, place: Path) -> None:
-    if shutil.which("cmake") is None or shutil.which("cc") is None:
-        print("CMake: skipped, since there is no cmake or cc on the path")
+    if lacks("CMake", "cmake", "cc"):
         return
     for version, is_taken in ((VERSION, True), ("1.0", True), ("3.0", False)):
         source = place / f"cmake-{version}"
@@ -271,8 +269,7 @@ def with_cmake(tally: Tally, prefix: Path, place: Path) -> None:
 
 
 def with_pkg_config(tally: Tally, prefix: Path, lib: str, place: Path) -> None:
-    if shutil.which("pkg-config") is None or shutil.which("cc") is None:
-        print("pkg-config: skipped, since there is no pkg-config or cc on the path")
+    if lacks("pkg-config", "pkg-config", "cc"):
         return
     path = f"{prefix}/{lib}/pkgconfig"
     flags = done(tally, "pkg-config", "pkg-config", "--cflags", "--libs", "hingetulip", PKG_CONFIG_PATH=path)
@@ -342,8 +339,7 @@ def uninstalled(tally: Tally, copy: Path, prefix: Path) -> None:
 
 def as_packages(tally: Tally, copy: Path, place: Path) -> None:
     """Debian's packages and the tarball: the same bytes twice, and nothing that lintian calls an error."""
-    if shutil.which("dpkg-deb") is None:
-        print("Debian's packages: skipped, since there is no dpkg-deb on the path")
+    if lacks("Debian's packages", "dpkg-deb"):
         return
     sums = []
     for name in ("debs", "debs again"):
@@ -353,8 +349,7 @@ def as_packages(tally: Tally, copy: Path, place: Path) -> None:
     names = [f"hingetulip-{VERSION}-x86_64.tar.gz", *(f"{name}_{VERSION}-1_amd64.deb" for name in packages)]
     tally.equal("the packages", sorted(names), sorted(sums[0]))
     tally.equal("packages made twice", sums[0], sums[1])
-    if shutil.which("lintian") is None:
-        print("lintian: skipped, since it isn't on the path")
+    if lacks("lintian", "lintian"):
         return
     symbols(tally, copy, place)
     told = run("lintian", "--allow-root", *sorted((place / "debs").glob("*.deb"))).stdout

@@ -16,7 +16,7 @@ from tempfile import TemporaryDirectory
 
 from installs import joined
 from matplotlib.image import imread
-from tally import TOP, Tally, judge
+from tally import TOP, Tally, judge, lacks
 
 PICTURES = TOP / "docs" / "pictures"
 PAGES = ("docs/CAPTURE.md", "docs/EMBEDDING.md")
@@ -54,8 +54,7 @@ def main(tally: Tally, *words: str) -> None:
     count = 0
     for block, name in [match for page in PAGES for match in DRAWN.findall((TOP / page).read_text())]:
         count += 1
-        if "iperf3" in block and shutil.which("iperf3") is None:
-            print(f"{name}: skipped, since there is no iperf3 on the path")
+        if "iperf3" in block and lacks(name, "iperf3"):
             continue
         with TemporaryDirectory() as folder:
             drawn = draw(block, Path(folder))

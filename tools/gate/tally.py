@@ -1,6 +1,7 @@
 """A part's form: its count of passed and failed checks, printed as its last line, and the folders from which parts import."""
 
 import os
+import shutil
 import subprocess
 import sys
 from collections.abc import Callable
@@ -63,6 +64,14 @@ def ran(*words: object, is_apart: bool = False, **how: Any) -> Ran:
     stdin = {} if "input" in how or "stdin" in how else {"stdin": subprocess.DEVNULL}
     streams = {"stdout": subprocess.PIPE, "stderr": subprocess.PIPE if is_apart else subprocess.STDOUT, **stdin}
     return subprocess.run(list(map(str, words)), **{**streams, "text": True, **how})
+
+
+def lacks(name: str, *programs: str) -> bool:
+    """Returns whether this machine lacks one of the programs that a check needs, and says that the check is skipped then."""
+    missing = [program for program in programs if shutil.which(program) is None]
+    if missing:
+        print(f"{name}: skipped, since there is no {missing[0]} on the path", flush=True)
+    return bool(missing)
 
 
 def stated(tally: Tally, page: str, *words: str) -> None:

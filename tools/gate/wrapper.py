@@ -16,7 +16,7 @@ import sys
 from pathlib import Path
 from tempfile import TemporaryDirectory
 
-from tally import TOP, Tally, judge
+from tally import TOP, Tally, judge, lacks
 
 SCRIPTS = """dummynet build crates.txt HANDLES VERSION LICENSE tools/release/program_sources tools/release/build_program.py
 tools/release/link_library.py tools/release/library tools/release/release crates/hingetulip_c/include/hingetulip.h
@@ -200,8 +200,7 @@ def released(tally: Tally, copy: Copy) -> None:
 
 def the_library(tally: Tally, copy: Copy) -> None:
     """./build --lib, where there is a C compiler."""
-    if shutil.which("cc") is None:
-        print("the C library: skipped, since there is no cc on the path")
+    if lacks("the C library", "cc"):
         return
     programs = copy.built()
     done = copy.run("--lib", script="build", fails="hingetulip_c")
