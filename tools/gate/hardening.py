@@ -10,13 +10,9 @@ import re
 import subprocess
 from pathlib import Path
 
-from tally import TOP, Tally, judge, ran
+from tally import TOP, Tally, judge, said
 
 GUARD, CHECKED = "__stack_chk_fail", re.compile(r"__\w+_chk\b")
-
-
-def said(*words: str | Path) -> str:
-    return ran(*words, is_apart=True, check=True).stdout
 
 
 def lacking(file: Path, guarded: bool) -> list[str]:

@@ -66,6 +66,11 @@ def ran(*words: object, is_apart: bool = False, **how: Any) -> Ran:
     return subprocess.run(list(map(str, words)), **{**streams, "text": True, **how})
 
 
+def said(*words: object) -> str:
+    """Returns the output of a command that has to succeed, without its errors."""
+    return ran(*words, is_apart=True, check=True).stdout
+
+
 def lacks(name: str, *programs: str) -> bool:
     """Returns whether this machine lacks one of the programs that a check needs, and says that the check is skipped then."""
     missing = [program for program in programs if shutil.which(program) is None]
