@@ -14,10 +14,7 @@ from hinge.command_line import add
 if TYPE_CHECKING:
     from hinge.outputs import Format
 
-SOURCE = (
-    "a history or the transcript of a live session, or a packet file and the report that dummynet wrote of it; "
-    "`-` is standard input"
-)
+SOURCE = "a history or the transcript of a live session, or a packet file and the report that dummynet wrote of it; `-` is standard input"
 RULE = (
     "[up|down] [tcp|udp|icmp|icmp6|proto N] [src|dst|host NET] [port|sport|dport N[-M]] [dscp N]"  # that says where a packet goes
 )

@@ -22,14 +22,11 @@ if TYPE_CHECKING:
     from hingetulip.aio import Network
 
 MARKS = (
-    (
-        'link(options, back=options, preset=name): the link of a test, as "8Mbit/s 20ms plr 0.05", and that of the'
-        " way back if it is another"
-    ),
+    'link(options, back=options, preset=name): the link of a test, as "8Mbit/s 20ms plr 0.05", and that of the way back if it is another',
     "vary(delay, jitter, phase, drift, skew, duplicates, cuts, one_way_cuts, holds, crashes): what the seed varies in sim_net,"
     " as delay='5..100ms', drift='100ppm'",
     "real(name, ..): what may be real in simulated time, by a part of its name, as real('libpq'); other real calls fail the test",
-    ("simulated(**options): the test runs in a simulated machine of its own, with options of `hinge run`, as" " server=COMMAND"),
+    "simulated(**options): the test runs in a simulated machine of its own, with options of `hinge run`, as server=COMMAND",
 )
 INSIDE = "HINGE_TEST_REPORTS"  # in a simulated machine: the file that the reports of its test go to
 

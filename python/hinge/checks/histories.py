@@ -57,8 +57,7 @@ def bad_record(name: str, records: HistoryRecords, number: int) -> tuple[str, st
     if text.startswith("end,"):
         return (
             f"{name}:{line}",
-            f"{line_of_text}: there are {sum(1 for _ in records.calls())} entries, or the last has no reply; records were taken away "
-            f"or added",
+            f"{line_of_text}: there are {sum(1 for _ in records.calls())} entries, or the last has no reply; records were taken away or added",
         )
     if line == last and not records.is_whole:
         return (
@@ -68,8 +67,7 @@ def bad_record(name: str, records: HistoryRecords, number: int) -> tuple[str, st
     if text.startswith("#"):
         return (
             f"{name}:{line}",
-            f"{line_of_text}: a remark, which only the transcript of a live session has; leave it out, or begin the file "
-            f"with dummynet-live,1",
+            f"{line_of_text}: a remark, which only the transcript of a live session has; leave it out, or begin the file with dummynet-live,1",
         )
     return f"{name}:{line}", f"{line_of_text}: not a record here; the file was edited"
 

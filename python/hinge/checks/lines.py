@@ -211,8 +211,5 @@ def unlikely(name: str, word: str) -> str | None:
         return f"delay {word} is {ms / 1000:g} s; delays are in ms"
     if name in FIELD_BITS and is_number(word) and int(word) & (int(word) + 1):
         whole = hex((1 << FIELD_BITS[name]) - 1)
-        return (
-            f"mask {name} {word} keeps the bits {int(word):#x}, and is neither a prefix length nor a value; all "
-            f"bits are {whole}"
-        )
+        return f"mask {name} {word} keeps the bits {int(word):#x}, and is neither a prefix length nor a value; all bits are {whole}"
     return None

@@ -190,7 +190,7 @@ class RowCheck:
         if sums.longest > LONGEST_FRAME:
             self.found.warn(
                 self.name,
-                f"packets of up to {sums.longest} bytes: segments that a card was still to cut? (`hinge " f"packets --mtu 1500`)",
+                f"packets of up to {sums.longest} bytes: segments that a card was still to cut? (`hinge packets --mtu 1500`)",
             )
         if self.in_force is not None:
             self.warn_of_targets(sums, self.in_force)
@@ -201,8 +201,7 @@ class RowCheck:
         if late:
             self.found.warn(
                 f"{self.name}:{self.line - 1 + sums.late_line}",
-                f"{late} of {count} rows have a moment before that of a row above, and count as sent "
-                "at that one's; sort the rows by moment",
+                f"{late} of {count} rows have a moment before that of a row above, and count as sent at that one's; sort the rows by moment",
             )
         if count >= 100 and span < 100 * count:
             self.found.warn(self.name, f"{count} packets within {span} ns; moments are nanoseconds (1 s is 1000000000)")
@@ -231,5 +230,5 @@ class RowCheck:
             word = sums.word
             fate = "lost" if word % LOSS_PARTS < max(rates) else "not lost"
             self.found.warn(
-                self.name, f"each word is {word}, so under a loss rate all packets have one fate ({fate}); draw each " f"word anew"
+                self.name, f"each word is {word}, so under a loss rate all packets have one fate ({fate}); draw each word anew"
             )

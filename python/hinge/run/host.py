@@ -36,8 +36,7 @@ def program() -> str:
         if place and os.access(place, os.X_OK):
             return os.path.abspath(place)
     raise Missing(
-        f"there is no host {NAME}: in a clone tools/release/hosts builds it, with a C compiler; the variable HINGE_LINK can"
-        " name it"
+        f"there is no host {NAME}: in a clone tools/release/hosts builds it, with a C compiler; the variable HINGE_LINK can name it"
     )
 
 

@@ -76,7 +76,7 @@ class Outside:
         self.loopback, self.outer = loopback, side_beside(network)
         if not shutil.which("slirp4netns") and (os.geteuid() == 0 or not shutil.which("pasta")):
             raise Missing(
-                "--outside: slirp4netns isn't there, nor pasta, which serves users but root: sudo apt install" " slirp4netns"
+                "--outside: slirp4netns isn't there, nor pasta, which serves users but root: sudo apt install slirp4netns"
             )
         self.ipv6 = leads_out_in_ipv6()
         self.said = os.memfd_create("said")  # what the joining program says: told where there is no way out
@@ -128,7 +128,7 @@ class Outside:
         while not self.joined():
             if time.monotonic() > until:
                 raise Missing(
-                    "--outside: the host gets no way out:" f" {os.pread(self.said, 1000, 0).decode(errors='replace').strip()}"
+                    f"--outside: the host gets no way out: {os.pread(self.said, 1000, 0).decode(errors='replace').strip()}"
                 )
             time.sleep(0.01)
         for name in (*interfaces, INTERFACE) if interfaces else ():

@@ -139,8 +139,7 @@ class Plan:
     def refuse_unlost(loss: str, queues: set[Target]) -> None:
         if float(loss) and queues:
             raise Wrong(
-                "the link's loss isn't that of a queue, to which a rule sends packets:"
-                f" write `plr {loss}`, or `plr 0`, in the queue's line"
+                f"the link's loss isn't that of a queue, to which a rule sends packets: write `plr {loss}`, or `plr 0`, in the queue's line"
             )
 
     def extra(self, way: int, extra: Extra) -> None:
@@ -422,8 +421,7 @@ class Plan:
         rates, period = counted(path, moments, bin_ns, self.longest), moments[-1] * MS
         if len(rates) > 1 and len(rates) * (lasting // period) > MOST_BINS:
             raise Wrong(
-                f"{path}: it has {len(rates)} rates and would begin {lasting // period} times; take a longer --bin, or"
-                " a shorter --trace-for"
+                f"{path}: it has {len(rates)} rates and would begin {lasting // period} times; take a longer --bin, or a shorter --trace-for"
             )
         for base in range(0, lasting, period) if len(rates) > 1 else [0]:
             self.changes.lines += [Change(base + moment, with_bandwidth(line, rate)) for moment, rate in rates]

@@ -24,23 +24,8 @@ from hinge.run.cgroups import Cgroup
 from hinge.run.interfaces import add_route, add_tun, dropped, set_up
 from hinge.run.processes import Mask
 from hinge.run.steps import at_root, kept_as_step
-from hinge.run.system import (
-    BIND,
-    NEWNET,
-    NEWNS,
-    NEWPID,
-    NEWUSER,
-    Missing,
-    enter,
-    keep_mounts_to_itself,
-    keep_network_rights,
-    mount,
-    setting,
-    try_to_write,
-    unmount,
-    unshare,
-    write,
-)
+from hinge.run.system import BIND, NEWNET, NEWNS, NEWPID, NEWUSER, Missing, enter, keep_mounts_to_itself, keep_network_rights, mount
+from hinge.run.system import setting, try_to_write, unmount, unshare, write
 from hinge.run.two_hosts import Ends
 from hinge.run.users import Users, make_terminals
 
@@ -70,7 +55,7 @@ def advice(number: Optional[int]) -> str:
     if number == errno.EPERM and is_chrooted():
         return "in a chroot the kernel gives them to root alone: run it as root"
     if setting("kernel/apparmor_restrict_unprivileged_userns") == "1":
-        return "AppArmor keeps users from it: sudo sysctl kernel.apparmor_restrict_unprivileged_userns=0, or run it as" " root"
+        return "AppArmor keeps users from it: sudo sysctl kernel.apparmor_restrict_unprivileged_userns=0, or run it as root"
     if setting("kernel/unprivileged_userns_clone") == "0":
         return "users may not make them: sudo sysctl kernel.unprivileged_userns_clone=1, or run it as root"
     if setting("user/max_user_namespaces") == "0" or number == errno.ENOSPC:
@@ -118,7 +103,7 @@ def leave_the_system() -> bool:
         keep_mounts_to_itself()
     except OSError as error:
         raise Missing(
-            f"{error.filename or 'mounts'}: {error.strerror}: in a chroot mount /proc there first: mount -t proc proc" " /proc"
+            f"{error.filename or 'mounts'}: {error.strerror}: in a chroot mount /proc there first: mount -t proc proc /proc"
         ) from None
     System.is_left = True
     return own

@@ -73,6 +73,6 @@ class Rule:
             -1 if self.short.dscp is None else self.short.dscp,
         )
         return [
-            f"{head} {protocol} {dscp} {net_words(src)} {net_words(dst)} " f"{sport.low} {sport.high} {dport.low} {dport.high}"
+            f"{head} {protocol} {dscp} {net_words(src)} {net_words(dst)} {sport.low} {sport.high} {dport.low} {dport.high}"
             for protocol, (src, dst), (sport, dport) in product(self.short.protocols or (-1,), self.nets(), self.spans())
         ]

@@ -54,12 +54,10 @@ def told(transcript: str, count: int) -> Iterator[str]:
     parts = [] if transcript.startswith(f"{KEPT}/") else parts_of(transcript, count)
     if len(parts) > 1:
         yield (
-            f"the transcript is in {count} files, of which each is audited by itself: {parts[0]},"
-            f" {parts[1]}{' ..' if count > 2 else ''}"
+            f"the transcript is in {count} files, of which each is audited by itself: {parts[0]}, {parts[1]}{' ..' if count > 2 else ''}"
         )
     for part in parts:
         if os.path.exists(part) and (size := os.path.getsize(part)) > AUDITED:
             yield (
-                f"{part} has {size} bytes, since the link was never idle; its audit: dummynet audit --most-history"
-                f" {size} {part}"
+                f"{part} has {size} bytes, since the link was never idle; its audit: dummynet audit --most-history {size} {part}"
             )
