@@ -77,10 +77,8 @@ def be_silent(name: str) -> None:
     """Stops an interface from choosing an IPv6 address, so that the kernel sends no packets there."""
     for setting, value in QUIET:
         try_to_write(f"/proc/sys/net/ipv6/conf/{name}/{setting}", value)
-    try:
+    with suppress(OSError):  # a system without IPv6
         change(name, 0, 0, of_family(socket.AF_INET6, packed([(ADDRESS_MODE, bytes([NO_ADDRESS]))])))
-    except OSError:
-        pass  # a system without IPv6
 
 
 @lru_cache(maxsize=4096)
@@ -192,10 +190,8 @@ def add_tun(
         change(name, 0, 0, [(HARDWARE_ADDRESS, mac)])
     set_up(name, UP | MULTICAST, ((MTU, mtu), (QUEUE_LENGTH, QUEUE)))
     add_address(name, address, bits)
-    try:
+    with suppress(OSError):  # a system without IPv6
         add_address(name, address6, 64)
-    except OSError:
-        pass  # a system without IPv6
     return descriptor
 
 

@@ -12,6 +12,7 @@ import errno
 import os
 import socket
 import struct
+from contextlib import suppress
 from typing import NamedTuple
 
 from hinge.border.files import read_system
@@ -87,10 +88,8 @@ def rules(by: str) -> list[tuple[int, str]]:
 
 def without_rules(by: str) -> None:
     """Removes all rules of a run, and makes the rule for local addresses the first again."""
-    try:
+    with suppress(OSError):
         rule(DELRULE, 0, LOCAL)
-    except OSError:
-        pass
     rule(NEWRULE, 0, LOCAL)
     for place, (table, comes_by) in enumerate(rules(by)):
         while True:

@@ -5,6 +5,7 @@ from __future__ import annotations
 import os
 import signal
 import time
+from contextlib import suppress
 from typing import Callable, NamedTuple, Optional, Set, Union
 
 Mask = Set[Union[int, signal.Signals]]  # of signals that are blocked
@@ -48,11 +49,9 @@ class Ticker:
 def signal_group(process: int, number: int) -> None:
     """Sends a signal to a process group, or only to the process if it leads no group."""
     for send in (os.killpg, os.kill):
-        try:
+        with suppress(ProcessLookupError):
             send(process, number)
             return
-        except ProcessLookupError:
-            pass
 
 
 class Processes:
@@ -64,15 +63,13 @@ class Processes:
         self.ended_at: dict[int, float] = {}  # and when their ends were seen, by the monotonic clock
 
     def reap(self) -> None:
-        try:
+        with suppress(ChildProcessError):
             while True:
                 process, status = os.waitpid(-1, os.WNOHANG)
                 if not process:
                     return
                 self.ended[process] = os.WEXITSTATUS(status) if os.WIFEXITED(status) else SIGNALLED + os.WTERMSIG(status)
                 self.ended_at[process] = time.monotonic()
-        except ChildProcessError:
-            pass
 
     def wait(
         self, process: int, lasting: Optional[float] = None, ticker: Optional[Ticker] = None, needed: Optional[int] = None

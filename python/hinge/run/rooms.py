@@ -70,11 +70,9 @@ def unshared() -> bool:
     """Leaves the system's namespaces, keeping the system's users if root may; returns whether there is a new user namespace."""
     flags = NEWNS | NEWPID | NEWNET
     if os.geteuid() == 0:
-        try:
+        with suppress(OSError):
             unshare(flags)
             return False
-        except OSError:
-            pass
     unshare(flags | NEWUSER)
     return True
 
@@ -118,10 +116,8 @@ def this_network() -> int:
 def see_own_processes() -> None:
     """Makes /proc show the processes in this namespace."""
     refuse_system()
-    try:
+    with suppress(OSError):  # a container that hides parts of /proc: the rooms see the container's processes
         mount("proc", "/proc", "proc", 0)
-    except OSError:
-        pass  # a container that hides parts of /proc: the rooms see the container's processes
 
 
 def may_ping() -> str:

@@ -6,6 +6,7 @@ import ctypes
 import errno
 import os
 import struct
+from contextlib import suppress
 from typing import Optional
 
 from hinge.border.files import read_system
@@ -118,10 +119,8 @@ def write(path: str, text: str) -> None:
 @kept_as_step
 def try_to_write(path: str, text: str) -> None:
     """Writes a setting; ignores a setting that doesn't exist or can't be written."""
-    try:
+    with suppress(OSError):
         write(path, text)
-    except OSError:
-        pass
 
 
 def setting(name: str) -> str:

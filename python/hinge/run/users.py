@@ -9,6 +9,7 @@ import grp
 import os
 import pwd
 import shutil
+from contextlib import suppress
 from typing import NamedTuple, Optional
 
 from hinge.border.files import read_system
@@ -29,10 +30,8 @@ class Subordinate(NamedTuple):
 def subordinate(path: str, user: int) -> Optional[Subordinate]:
     """Returns the first range for a user in a file, which lists names or numbers."""
     names = {str(user)}
-    try:
+    with suppress(KeyError):
         names.add(pwd.getpwuid(user).pw_name)
-    except KeyError:
-        pass
     try:
         rows = [line.strip().split(":") for line in read_system(path).splitlines()]
     except OSError:
@@ -98,10 +97,8 @@ def make_terminals() -> None:
 
     If the system refuses, the process keeps the system's terminals.
     """
-    try:
+    with suppress(KeyError, OSError):
         group = grp.getgrnam("tty").gr_gid
         unshare(NEWNS)
         mount("devpts", TERMINALS, "devpts", 0, f"newinstance,ptmxmode=0666,mode=0620,gid={group}")
         mount(f"{TERMINALS}/ptmx", TERMINAL_MAKER, "none", BIND)
-    except (KeyError, OSError):
-        pass
