@@ -16,9 +16,8 @@ from contextlib import suppress
 from dataclasses import dataclass, field, replace
 from typing import Callable, NamedTuple, Optional, Sequence
 
-from hinge.border.asking import reached
+from hinge.border.asking import is_own, reached, within
 from hinge.border.messages import Order, Reply, Strange, line_of, read_message
-from hinge.border.peers import is_own, within
 from hinge.border.scratch import PREFIX, alone, held, undisturbed
 from hinge.border.terminal import note_defect
 from hinge.run.system import exchange

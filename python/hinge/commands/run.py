@@ -91,7 +91,7 @@ def command_line(words: Optional[Sequence[str]] = None) -> RunOptions:
     if missing is not None:
         raise Fault(missing, CANNOT_EXECUTE if os.path.isfile(arguments.command[0]) else NOT_FOUND)
     if arguments.container is not None:
-        from hinge.run.containers import process_of
+        from hinge.run.joined import process_of
 
         arguments.netns = process_of(arguments.container)
     return RunOptions(**vars(arguments), more_files=())

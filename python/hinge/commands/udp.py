@@ -13,19 +13,18 @@ from typing import NamedTuple
 
 from hinge.arguments import is_number
 from hinge.border.terminal import show
+from hinge.checks.lines import refuse_wrong
 from hinge.command import FILES, parser
 from hinge.command_line import add, Parser
-from hinge.checks.lines import refuse_wrong
+from hinge.replays.units import socket_address
 from hinge.run.host import Link, program
 from hinge.run.options import add_link, add_run
 from hinge.run.order import Order, note_realtime, order_of, report
 from hinge.run.page import Page
 from hinge.run.processes import Processes, Ticker
 from hinge.run.settings import LiveOptions
-from hinge.run.summary import record
+from hinge.run.summary import Watch, record
 from hinge.run.system import Missing
-from hinge.run.watch import Watch
-from hinge.replays.units import socket_address
 from hinge.run.words import Wrong, read_lines
 from hingetulip_words.link import Place, corrected
 

@@ -7,8 +7,7 @@ from collections import Counter, deque
 from dataclasses import dataclass
 
 from hinge.lazy import Integers, Mask, np
-from hinge.paths.passages import NO_HOST, Passages
-from hinge.paths.scopes import Scope
+from hinge.paths.passages import NO_HOST, Passages, Scope
 
 NONE = -1
 MIX = 0x9E3779B97F4A7C15  # an odd number, by which products differ in all bits

@@ -2,24 +2,61 @@
 
 from __future__ import annotations
 
+import enum
 import ipaddress
 import re
 from dataclasses import dataclass, field
-from typing import Iterable, Iterator, NamedTuple
+from typing import Iterable, Iterator, NamedTuple, Union
 
 from hinge.border.files import untrusted
 from hinge.captures.addresses import address_of_six
 from hinge.command import ROWS, Fault
 from hinge.lazy import Integers, np
-from hinge.paths.scopes import scopes_of
 from hinge.replays.columns import NET_COLUMNS, OUT, Told, read_told
 from hinge.replays.remarks import Lateness, addresses_in, lateness_in
 
+Address = Union[ipaddress.IPv4Address, ipaddress.IPv6Address]
+LOCAL_GROUPS = ipaddress.IPv4Network("224.0.0.0/24")
+EVERYBODY = ipaddress.IPv4Address("255.255.255.255")
+LINK_SCOPE = 2  # of groups of IPv6; those of an interface have 1
+LAST_OF_NETWORK = 255  # links have networks of 24 bits
 OUTAGE_PROTOCOL = 255  # of a packet that nobody sent
 QUEUE_OF_PIPE = re.compile(r"queue (\d{1,18}) config .*?\bpipe (\d{1,18})", re.ASCII)
 NO_HOST = -1
 LABEL = re.compile(r"[A-Za-z0-9][A-Za-z0-9._~-]{0,199}", re.ASCII)  # of a host, and of where the jitter of a way begins
 BETWEEN = "~"  # in the name of where the jitter of a way begins
+
+
+class Scope(enum.IntEnum):
+    """The scope of an address. Those of no host are a group, a broadcast, or an address of one link."""
+
+    HOST = 0  # one host has it
+    LINK = 1  # it ends at the next host
+    GROUP = 2  # it may end at each host, and may go on by each other link
+
+
+def scope_of(address: Address) -> Scope:
+    is_six = isinstance(address, ipaddress.IPv6Address)
+    if address.is_multicast:
+        is_local = address.packed[1] & 15 <= LINK_SCOPE if is_six else address in LOCAL_GROUPS
+        return Scope.LINK if is_local else Scope.GROUP
+    is_of_link = address.is_unspecified or address == EVERYBODY or is_six and address.is_link_local
+    return Scope.LINK if is_of_link else Scope.HOST
+
+
+def scopes_of(addresses: Integers, of_hosts: set[int], six: dict[int, str]) -> Integers:
+    """Returns each address's scope as a number; for IPv6, the address is a stand-in. `of_hosts` contains the hosts' addresses,
+    whose networks have broadcasts."""
+    broadcasts = {address | LAST_OF_NETWORK for address in of_hosts if address not in six} - of_hosts
+    used, place = np.unique(addresses, return_inverse=True)
+    scopes = [
+        Scope.LINK
+        if address in broadcasts
+        else scope_of(ipaddress.IPv6Address(six[address]) if address in six else ipaddress.IPv4Address(address))
+        for address in used.tolist()
+    ]
+    places: Integers = np.array(scopes, np.int64)[place.ravel()]
+    return places
 
 
 @dataclass

@@ -19,11 +19,10 @@ from hinge.run.ports import Ports
 from hinge.run.processes import SIGNALLED, Ended, Processes, Ticker, name_of
 from hinge.run.rooms import Rooms
 from hinge.run.settings import RunOptions
-from hinge.run.summary import record
+from hinge.run.summary import Watch, record
 from hinge.run.system import enter, is_simulated
 from hinge.run.two_hosts import ends_of
 from hinge.run.verdict import Waits
-from hinge.run.watch import Watch
 from hinge.run.words import Wrong
 
 if TYPE_CHECKING:

@@ -81,7 +81,7 @@ class Model(argparse._AppendAction):
     """A loss model, or a rate, which the link takes."""
 
     def __call__(self, parser: argparse.ArgumentParser, namespace: argparse.Namespace, values: Any, option: Any = None) -> None:
-        from hinge.run.losses import rate_of
+        from hinge.loss import rate_of
 
         if isinstance(parser, Parser) and rate_of(values):
             parser.foreign.append(("--loss", rate_of(values)))

@@ -295,7 +295,7 @@ class Plan:
         self.refuse_unlost(self.losses.get(way, "0"), {rule.target} & self.silent)
 
     def loss(self, text: str, link: int = 0) -> None:
-        from hinge.run.losses import loss_lines, model_name
+        from hinge.loss import loss_lines, model_name
 
         lines = loss_lines(text, link)
         for first in re.findall(r"(\d+)(?:-\d+)?", text) if "list:" in text else ():

@@ -5,7 +5,8 @@ from __future__ import annotations
 import re
 from typing import Iterator, Optional, Sequence, Union
 
-from hinge.run.page import COUNTS, ENDED_WELL, Counts, Way
+from hinge.border.terminal import tell
+from hinge.run.page import COUNTS, ENDED_WELL, Counts, Page, Way
 
 NAMES = ("up", "down")
 FORMAT = 1  # of the record; docs/LIVE.md has its keys
@@ -107,3 +108,24 @@ def record(counts: Counts, drops: Sequence[int], status: Optional[int], seed: in
     ways = [way_record(way, losses) for way, losses in zip(counts.ways, drops)]
     front = {"format": FORMAT, "status": status, "seed": seed, "void": faults}
     return front | host_record(counts) | dict(zip(NAMES, ways))
+
+
+def shown(name: str, before: Way, now: Way) -> str:
+    """Returns a direction's counts between two looks a second apart; the delay is the mean over packets that left."""
+    more = {key: now[key] - before[key] for key in ("sent", "sent_bytes", "stayed", "lost", "full")}
+    delay, rate = more["stayed"] / max(1, more["sent"]) / 1e6, more["sent_bytes"] * 8 / 1e6
+    return f"{name:4} {rate:9.3f} Mbit/s {now['held']:6} in link {delay:9.3f} ms {more['lost'] + more['full']:5} dropped"
+
+
+class Watch:
+    """Prints a line each second with the rates, queues and losses of both directions, for `--watch`."""
+
+    def __init__(self, page: Page) -> None:
+        self.page, self.before = page, page.read()
+
+    def tick(self, at: float) -> None:
+        """Prints the last second; `at` is the time in seconds since the start."""
+        counts = self.page.read()
+        ways = (shown(*way) for way in zip(NAMES, self.before.ways, counts.ways))
+        tell("  | ".join([f"{at:6.1f} s", *ways]))
+        self.before = counts

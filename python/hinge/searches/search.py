@@ -11,9 +11,8 @@ from hinge.border.scratch import Ended
 from hinge.border.terminal import several, show
 from hinge.command import Fault, say
 from hinge.outputs import writing
-from hinge.searches.case import Case, case_of
-from hinge.searches.cause import cause_lines, repetition_of
-from hinge.searches.losses import Lost, lines_of_losses, losses_in
+from hinge.searches.case import Case, case_of, least
+from hinge.searches.cause import Lost, cause_lines, lines_of_losses, losses_in, repetition_of
 from hinge.searches.runs import RunFiles, Runner, Runs, SearchSettings, command_words
 from hinge.searches.shrinking import least
 from hinge.simulated.failures import NET_KEY, WORDS_KEY

@@ -13,8 +13,7 @@ from _pytest.runner import runtestprotocol
 from hinge.fault_lines import Drawn, Faults, read_faults
 from hinge.faults import some_faults
 from hinge.pytest_plugin import LINKS, TRIED
-from hinge.searches.case import Case, Part
-from hinge.searches.shrinking import least
+from hinge.searches.case import Case, Part, least
 from hinge.testing.emulated import SimulatedPath
 from hinge.testing.marks import Variation, variation_of, vary_of
 

@@ -9,7 +9,7 @@ import time
 import unittest
 from unittest import mock
 
-from hinge.run.containers import process_of
+from hinge.run.joined import process_of
 from hinge.run.system import Missing
 from hinge.run.words import Wrong
 from linked import HINGE, Done, audited_as_lawful, needs, needs_rooms, run, until

@@ -13,9 +13,8 @@ from typing import Any
 from hinge.command import Fault
 from hinge.net.description import read_description
 from hinge.net.net_plan import NetPlan
-from hinge.searches.case import KINDS, Case, Part, faults_of, joined_losses, lossless
-from hinge.searches.losses import packets_lost
-from hinge.searches.shrinking import least
+from hinge.searches.case import KINDS, Case, Part, faults_of, joined_losses, least, lossless
+from hinge.searches.cause import packets_lost
 from hinge.simulated.calls_kept import GOES_ON, PAUSES, CallRow, around
 from hinge.simulated.failures import file_beside
 from hinge.simulated.places import innermost_place
