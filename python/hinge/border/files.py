@@ -207,16 +207,12 @@ class Input(NamedTuple):
     path: str
     name: str
 
-    @classmethod
-    def as_it_is(cls, name: str) -> Input:
-        return cls(name, name)
-
 
 @contextmanager
 def read_again(name: str, most: Optional[int]) -> Iterator[Input]:
     """Yields a file for several readings. Standard input and pipes are first copied to a file without a name, up to `most` bytes."""
     if name != "-" and not stat.S_ISFIFO(os.stat(name).st_mode):
-        yield Input.as_it_is(name)
+        yield Input(name, name)
         return
     with unnamed() as (copy, path):
         with untrusted(name), opened(name, most) as source:

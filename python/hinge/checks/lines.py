@@ -177,12 +177,9 @@ class LineCheck:
         if verdict.name != "no-such-pipe":
             return f"no such queue: queue {words[-1]} isn't configured here; leave this line out"
         pipe = f"pipe {words[4] if words[1] != 'delete' and len(words) > 4 else words[-1]}"
-        because = (
-            f" (line {self.spoilt[pipe]}, which is of it, has a fault)"
-            if pipe in self.spoilt
-            else "; a pipe's line stands above those of its queues"
-        )
-        return f"no such pipe: {pipe} isn't configured here{because}"
+        if pipe in self.spoilt:
+            return f"no such pipe: {pipe} isn't configured here (line {self.spoilt[pipe]}, which is of it, has a fault)"
+        return f"no such pipe: {pipe} isn't configured here; a pipe's line stands above those of its queues"
 
     def warn_of_second(self, where: str, words: list[str]) -> None:
         """Warns of a line that repeats an earlier line's target, or an option."""

@@ -149,10 +149,8 @@ def check_operations(name: str, data: bytes, model: str, findings: Findings) -> 
         for one in fewest:
             show(printable(f"{name}:{one.line}: {one.told()}"))
     sys.stdout.flush()
-    unknown, orders = (
-        sum(not one.is_over for one in operations),
-        f"{len(bad)} without an order" if bad else "not all judged" if findings.status else "each with an order",
-    )
+    unknown = sum(not one.is_over for one in operations)
+    orders = f"{len(bad)} without an order" if bad else "not all judged" if findings.status else "each with an order"
     counts = f"{several(len(operations), 'operation')} on {several(len(keys), 'key')}, {orders}"
     tell(f"{name}: {counts}; {unknown} never returned, {refusals} refused")
     return fewest

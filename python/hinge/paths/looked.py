@@ -15,7 +15,7 @@ from hinge.paths.folder import HISTORY, NET, session_of, told_drops
 from hinge.paths.hops import Hops
 from hinge.paths.matching import Matched, match
 from hinge.paths.net_graph import as_link
-from hinge.paths.net_picture import net_drawing
+from hinge.paths.net_picture import NetPicture
 from hinge.paths.passages import read_transcript
 from hinge.paths.report import hosts_of, of_faults, of_paths, of_ways, paths, summary, ways
 from hinge.paths.timeline import Looked, Timeline, chart, name_of_way, timeline, told_changes
@@ -35,14 +35,9 @@ HEAD = 1 << 20  # bytes in which the seed is
 
 def refuse_others(options: LookOptions, folder: str) -> None:
     """Fault: an option applies only to single links."""
-    for name, is_given in (
-        ("--by", options.by != "tuple"),
-        ("--csv", options.csv),
-        ("--config", options.config is not None),
-        ("--capture", options.capture is not None),
-        *((f"-o FILE{one.value}", bool(options.files(one))) for one in CAPTURES),
-    ):
-        if is_given:
+    of_links = {"--by": options.by != "tuple", "--csv": options.csv, "--config": options.config, "--capture": options.capture}
+    for name, value in (of_links | {f"-o FILE{one.value}": options.files(one) for one in CAPTURES}).items():
+        if value:
             history = os.path.join(folder, HISTORY)
             raise Fault(f"{folder}: {name} is of one history, as {history}, and not of a net's folder", ROWS)
 
@@ -63,36 +58,21 @@ def text_of(matching: Matched, line: Timeline, top: int, files: list[str]) -> It
 
 def look_record(matching: Matched, line: Timeline, history: str, seed: str | None) -> dict[str, Any]:
     """Returns the record for JSON; docs/LIVE.md describes its keys."""
-    pipes = matching.passages.topology.pipes
-    hosts = matching.passages.topology.hosts
-    ends = {pipe: {"pipe": pipe, "from": hosts[start], "to": hosts[end]} for pipe, (start, end) in pipes.items()}
-    return {
-        "format": FORMAT,
-        "history": history,
-        "seed": seed,
-        "span_ns": line.span,
-        "lawful_between_links": matching.is_lawful,
+    pipes, hosts = matching.passages.topology.pipes, matching.passages.topology.hosts
+    ends: dict[int, dict[str, Any]] = {
+        pipe: {"pipe": pipe, "from": hosts[start], "to": hosts[end]} for pipe, (start, end) in pipes.items()
+    }
+    front = {"format": FORMAT, "history": history, "seed": seed, "span_ns": line.span, "lawful_between_links": matching.is_lawful}
+    return front | {
         "ways": [
-            {
-                **ends[way.pipe],
-                "packets": way.packets,
-                "lost": way.lost,
-                "full": way.full,
-                "carried_mbit_s": way.mbit_s,
-                "mean_ns": way.mean,
-                "p99_ns": way.p99,
-            }
+            {**ends[way.pipe], "packets": way.packets, "lost": way.lost, "full": way.full}
+            | {"carried_mbit_s": way.mbit_s, "mean_ns": way.mean, "p99_ns": way.p99}
             for way in ways(matching)
         ],
         "paths": [
-            {
-                "hosts": hosts_of(matching, path),
-                "pipes": list(path.pipes),
-                "packets": len(path.sent),
-                "links_ns": [int(time) for time in path.links.mean(axis=0)],
-                "hosts_ns": [int(time) for time in path.hosts.mean(axis=0)],
-                "most_in_hosts_ns": path.most_in_hosts,
-            }
+            {"hosts": hosts_of(matching, path), "pipes": list(path.pipes), "packets": len(path.sent)}
+            | {f"{kind}_ns": getattr(path, kind).mean(axis=0).astype(int).tolist() for kind in ("links", "hosts")}
+            | {"most_in_hosts_ns": path.most_in_hosts}
             for path in paths(matching)
         ],
         "changes": [
@@ -122,7 +102,7 @@ def draw_net(view: Looked, options: LookOptions, files: list[str], seed: Optiona
     lines = [f"{name_of_way(view.found, pipe)}: {as_link(words)}" for pipe, words in sorted(view.words.items())]
     title = options.title or title_of(view)
     for name in options.o:
-        drawing = net_drawing(view, options.step, provenance(lines, files, seed))
+        drawing = NetPicture(view, options.step).drawing(provenance(lines, files, seed))
         with written(name) as place:
             if format_of(name) is Format.PAGE:
                 hops, numbers = Hops(folder), view.found.passages.number

@@ -56,11 +56,6 @@ def as_typed(kept: Fraction) -> Fraction:
     )
 
 
-def host_of(name: str) -> str:
-    """Returns the host with this name, or the one at which a way's jitter begins."""
-    return name.partition(BETWEEN)[0]
-
-
 class NetGraph:
     """Makes the panel of a net's hosts and links."""
 
@@ -70,7 +65,7 @@ class NetGraph:
         self.switches = {topology.hosts[number] for number in topology.switches}
         self.links: dict[tuple[str, str], list[int]] = {}  # the pipes of their ways
         for pipe, numbers in topology.pipes.items():
-            one, other = sorted(host_of(topology.hosts[number]) for number in numbers)
+            one, other = sorted(topology.hosts[number].partition(BETWEEN)[0] for number in numbers)
             if one != other:
                 self.links.setdefault((one, other), []).append(pipe)
         self.hosts = sorted({name for ends in self.links for name in ends})

@@ -148,7 +148,3 @@ class NetPicture:
         return Drawing(
             panels, keys, "", self.timeline.span / SECOND, below, "Ways, those with most packets first", shades=tuple(shades)
         )
-
-
-def net_drawing(view: Looked, step_ms: Optional[int], below: list[str]) -> Drawing:
-    return NetPicture(view, step_ms).drawing(below)

@@ -44,21 +44,6 @@ def scope_of(address: Address) -> Scope:
     return Scope.LINK if is_of_link else Scope.HOST
 
 
-def scopes_of(addresses: Integers, of_hosts: set[int], six: dict[int, str]) -> Integers:
-    """Returns each address's scope as a number; for IPv6, the address is a stand-in. `of_hosts` contains the hosts' addresses,
-    whose networks have broadcasts."""
-    broadcasts = {address | LAST_OF_NETWORK for address in of_hosts if address not in six} - of_hosts
-    used, place = np.unique(addresses, return_inverse=True)
-    scopes = [
-        Scope.LINK
-        if address in broadcasts
-        else scope_of(ipaddress.IPv6Address(six[address]) if address in six else ipaddress.IPv4Address(address))
-        for address in used.tolist()
-    ]
-    places: Integers = np.array(scopes, np.int64)[place.ravel()]
-    return places
-
-
 @dataclass
 class Topology:
     """A net's hosts by number, and its links' ways by pipe."""
@@ -76,9 +61,8 @@ class Topology:
     outside: int = NO_HOST  # the host behind which all other addresses are
     has_daemons: bool = False  # which change routes
     stand_ins: dict[int, str] = field(default_factory=dict)  # the addresses of IPv6 that they stand for
-    rejections: dict[tuple[int, int, int], list[int]] = field(
-        default_factory=dict
-    )  # by hosts and addresses: when one told so, in ns
+    # by hosts and addresses: when one told so, in ns
+    rejections: dict[tuple[int, int, int], list[int]] = field(default_factory=dict)
 
     def number(self, name: str) -> int:
         if name not in self.numbers:
@@ -94,30 +78,26 @@ class Topology:
         _, kind, *words = text.split(",")
         if kind == "switch":
             self.switches.add(self.number(words[0]))
-            return
-        if kind == "outside":
+        elif kind == "outside":
             self.outside = self.number(words[0])
-            return
-        if kind == "routes":
+        elif kind == "routes":
             self.has_daemons = True
-            return
-        if kind == "rejected":
+        elif kind == "rejected":
             moment, pipe, teller, *ends = map(int, words)
             host = self.host_of.get(teller, NO_HOST)
             if pipe in self.pipes and self.pipes[pipe][0] == host:  # and not on a later link
                 self.rejections.setdefault((host, ends[0], ends[1]), []).append(moment)
-            return
-        if kind == "copies":
+        elif kind == "copies":
             self.copied.add(int(words[0]))
-            return
-        if kind == "model":
+        elif kind == "model":
             self.models[int(words[0])] = ",".join(words[1:])
-            return
-        if kind == "pipe":
+        elif kind == "pipe":
             self.add_pipe(int(words[0]), (self.number(words[1]), self.number(words[2])))
-            return
-        host = self.number(words[0])
-        for text in words[1:]:
+        else:
+            self.add_host(self.number(words[0]), words[1:])
+
+    def add_host(self, host: int, addresses: list[str]) -> None:
+        for text in addresses:
             if ":" in text:
                 self.six[address_of_six(text)] = host
             else:
@@ -151,18 +131,25 @@ class Topology:
                 self.host_of[stand_in] = self.six[address]
 
     def scopes_of(self, addresses: Integers) -> Integers:
-        return scopes_of(addresses, set(self.host_of), self.stand_ins)
+        """Returns each address's scope as a number; for IPv6, the address is a stand-in. Hosts' networks have broadcasts."""
+        six, of_hosts = self.stand_ins, set(self.host_of)
+        broadcasts = {address | LAST_OF_NETWORK for address in of_hosts if address not in six} - of_hosts
+        used, place = np.unique(addresses, return_inverse=True)
+        own: list[Address] = [
+            ipaddress.IPv6Address(six[one]) if one in six else ipaddress.IPv4Address(one) for one in used.tolist()
+        ]
+        scopes = [Scope.LINK if one in broadcasts else scope_of(address) for one, address in zip(used.tolist(), own)]
+        places: Integers = np.array(scopes, np.int64)[place.ravel()]
+        return places
 
     def hosts_of(self, addresses: Integers) -> Integers:
         """Returns the host of each address; for other addresses, the host that leads outside, or NO_HOST."""
         addresses_of_hosts = np.array(sorted(self.host_of), np.int64)
         hosts = np.array([self.host_of[address] for address in addresses_of_hosts.tolist()], np.int64)
         at = np.minimum(np.searchsorted(addresses_of_hosts, addresses), max(len(addresses_of_hosts) - 1, 0))
-        return (
-            np.where(addresses_of_hosts[at] == addresses, hosts[at], self.outside)
-            if len(addresses_of_hosts)
-            else np.full(len(addresses), self.outside)
-        )
+        if not len(addresses_of_hosts):
+            return np.full(len(addresses), self.outside)
+        return np.where(addresses_of_hosts[at] == addresses, hosts[at], self.outside)
 
 
 @dataclass(frozen=True)
@@ -227,9 +214,8 @@ class Reader:
         """Reads the submits of a file, except those without a sender. Fault: a pipe's hosts are unknown."""
         history = read_told(path, "net", NET_COLUMNS)
         self.note(history)
-        get, refusals = history.rows.columns.__getitem__, [
-            int(one.split(",")[2]) for one in remarks_of_kinds(history.remarks, [b"refused"])
-        ]
+        get = history.rows.columns.__getitem__
+        refusals = [int(one.split(",")[2]) for one in remarks_of_kinds(history.remarks, [b"refused"])]
         is_handed = (get("event") == OUT) & ~np.isin(get("packet"), np.array(refusals, np.int64)) & (get("handed") >= 0)
         submitted, handed = self.records + get("submitted"), np.where(is_handed, self.records + get("handed"), -1)
         flow = [column[get("five_tuple")] for column in history.rows.tuples.columns()]

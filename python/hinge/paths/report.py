@@ -97,16 +97,13 @@ def ways(matching: Matched) -> list[WayFigures]:
     return items
 
 
-def told_or_none(value: Optional[float]) -> str:
-    return "-" if value is None else f"{value:.3f}"
-
-
 def of_ways(matching: Matched) -> Iterator[str]:
     """Yields a table of the ways with packets."""
     rows: list[tuple[str, ...]] = [("way", "packets", "lost", "full", "Mbit/s", "mean ms", "p99 ms")]
     for way in ways(matching):
-        times = (None if time is None else time / MS for time in (way.mean, way.p99))
-        rows.append((way.name, f"{way.packets:,}", f"{way.lost:,}", f"{way.full:,}", *map(told_or_none, (way.mbit_s, *times))))
+        values = (way.mbit_s, *(None if time is None else time / MS for time in (way.mean, way.p99)))
+        texts = ("-" if value is None else f"{value:.3f}" for value in values)
+        rows.append((way.name, f"{way.packets:,}", f"{way.lost:,}", f"{way.full:,}", *texts))
     widths = [max(map(len, column)) for column in zip(*rows)]
     for name, *fields in rows:
         yield "  ".join([name.ljust(widths[0]), *(field.rjust(width) for field, width in zip(fields, widths[1:]))])

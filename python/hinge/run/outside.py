@@ -42,12 +42,6 @@ INTERFACE = "outside"
 PATIENCE = 20  # s
 
 
-def side_beside(network: str) -> Side:
-    """Returns a network that doesn't overlap with the hosts' network."""
-    overlaps = ipaddress.IPv4Network(FIRST.net).overlaps(ipaddress.IPv4Network(network))
-    return SECOND if overlaps else FIRST
-
-
 def words_for(process: str, own_users: bool, ipv6: bool, loopback: bool, outer: Side) -> list[str]:
     """Returns the command that connects a process's network to this one: slirp4netns if installed, otherwise pasta, which
     refuses root.
@@ -72,8 +66,9 @@ class Outside:
     """Starts before this process leaves the system's network, and waits for the name of the room to connect."""
 
     def __init__(self, loopback: bool, network: str) -> None:
-        """`network` is the hosts' network."""
-        self.loopback, self.outer = loopback, side_beside(network)
+        """`network` is the hosts' network, with which the outer side's doesn't overlap."""
+        overlaps = ipaddress.IPv4Network(FIRST.net).overlaps(ipaddress.IPv4Network(network))
+        self.loopback, self.outer = loopback, SECOND if overlaps else FIRST
         if not shutil.which("slirp4netns") and (os.geteuid() == 0 or not shutil.which("pasta")):
             raise Missing(
                 "--outside: slirp4netns isn't there, nor pasta, which serves users but root: sudo apt install slirp4netns"

@@ -37,9 +37,6 @@ class Case:
     lines: "tuple[str, ...]"  # of a net, or an option with its word each
     parts: "tuple[Part, ...]"
 
-    def with_parts(self, parts: "tuple[Part, ...]") -> Case:
-        return replace(self, parts=parts)
-
     def of_kind(self, kind: str) -> "tuple[Part, ...]":
         return tuple(part for part in self.parts if part.kind == kind)
 
@@ -153,7 +150,7 @@ def left_out_by(case: Case, kind: str, size: int, fails: Fails) -> Case:
     """Returns the case without each group of neighbours that can go, from the last, since parts after the failure have no effect."""
     parts = case.of_kind(kind)
     for first in range(len(parts) - size, -size, -size):
-        smaller = case.with_parts(without(case.parts, parts[max(first, 0) : first + size]))
+        smaller = replace(case, parts=without(case.parts, parts[max(first, 0) : first + size]))
         if fails(smaller):
             case = smaller
     return case

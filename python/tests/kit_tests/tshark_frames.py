@@ -94,7 +94,7 @@ def frame_by_fields(number: int, value: dict[str, str]) -> Optional[Packet]:
 def frames_by_kit(capture: str) -> Iterator[tuple[int, Optional[Packet]]]:
     """The same by the program of the kit."""
     with open("/dev/null", "wb") as nowhere, read_capture(
-        Input.as_it_is(capture), RowPlan(), nowhere.fileno(), by_frame=True
+        Input(capture, capture), RowPlan(), nowhere.fileno(), by_frame=True
     ) as reader:
         packets = {packet.frame.number: packet for packet in reader.packets()}
         yield from ((number, packets.get(number)) for number in range(1, reader.frame_count + 1))
