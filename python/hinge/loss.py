@@ -31,8 +31,7 @@ class Words(Protocol):
 
     def next(self) -> int:
         """Returns the number that decides whether the direction's next packet is lost, from 0 to 2^31 - 1. The link loses the
-        packet if the number is below the loss rate times 2^31.
-        """
+        packet if the number is below the loss rate times 2^31."""
 
 
 @dataclass
@@ -200,10 +199,8 @@ def rate_of(text: str) -> str:
 
 
 def loss_lines(text: str, link: int = 0) -> dict[int, str]:
-    """Returns a line of the plan for each way in the text: `[up:|down:]gilbert:P,R[,B[,G]]` or `[up:|down:]list:N,N-M`.
-
-    Wrong: the text has another form.
-    """
+    """Returns a line of the plan for each way in the text: `[up:|down:]gilbert:P,R[,B[,G]]` or `[up:|down:]list:N,N-M`. Wrong: the
+    text has another form."""
     first, _, more = text.partition(":")
     ways, model = ([WAYS[first]], more) if first in WAYS else ([0, 1], text)
     kind, _, value = model.partition(":")

@@ -111,10 +111,9 @@ def lines_from(words: Sequence[str], file: IO[bytes], statuses: Iterable[int] = 
 
 
 def forked(work: Callable[[], Optional[int]]) -> int:
-    """Forks this process. The child calls `work` and exits with the status that `work` returns; if `work` raises an exception,
-    the child prints a report and exits with status FILES. Returns the child's process number to the parent. Fault: the
-    system can't start another process.
-    """
+    """Forks this process. The child calls `work` and exits with the status that `work` returns; if `work` raises an exception, the
+    child prints a report and exits with status FILES. Returns the child's process number to the parent. Fault: the system can't
+    start another process."""
     try:
         process = os.fork()
     except OSError as error:

@@ -54,8 +54,7 @@ class Short:
     """The short words of a rule as conditions on packets. Properties without a condition are free.
 
     `nets` contains the networks in `src`, `dst` and `host`, and `ports` the ports in `sport`, `dport` and `port`; the last of each
-    means either end.
-    """
+    means either end."""
 
     way: Optional[int] = None
     protocols: tuple[int, ...] = ()

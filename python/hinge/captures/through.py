@@ -35,8 +35,7 @@ def frames_of_rows(path: str, replay: Replay) -> Integers:
 def arrivals(replay: Replay, frames: Integers) -> list[tuple[int, int]]:
     """Returns the moment and number of each frame that arrives, in order of arrival.
 
-    A frame that was split into packets arrives with its last packet, or never if a packet doesn't leave.
-    """
+    A frame that was split into packets arrives with its last packet, or never if a packet doesn't leave."""
     count = int(frames.max()) + 1 if len(frames) else 0
     last, rows, departures = np.zeros(count, np.int64), np.bincount(frames, minlength=count), np.zeros(count, np.int64)
     np.maximum.at(last, frames[replay.is_out], replay.due[replay.is_out])

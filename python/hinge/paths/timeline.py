@@ -35,8 +35,7 @@ class WayChange(NamedTuple):
 
 @dataclass(frozen=True)
 class Timeline:
-    """The changes of the ways that weren't there from the beginning, and the times in which each lost all packets, in
-    ns."""
+    """The changes of the ways that weren't there from the beginning, and the times in which each lost all packets, in ns."""
 
     changes: list[WayChange]
     cuts: dict[int, list[tuple[int, int]]]

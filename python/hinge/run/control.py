@@ -41,8 +41,7 @@ def nobody(host: str) -> HostRoom:
 class Control:
     """The socket of a run. Create it before the links, and call `serve` to answer clients.
 
-    After that, only this object may use the plan. Requests that change the plan wait for each other.
-    """
+    After that, only this object may use the plan. Requests that change the plan wait for each other."""
 
     def __init__(
         self,
@@ -86,10 +85,8 @@ class Control:
         return Answer(Reply(status=self.status()))
 
     def change_by(self, words: str, client: Client) -> list[ObeyedLine]:
-        """Changes links for a client, after earlier requests; returns the applied lines.
-
-        Wrong: the request is too long, the run is busy, or the client has gone.
-        """
+        """Changes links for a client, after earlier requests; returns the applied lines. Wrong: the request is too long, the run is
+        busy, or the client has gone."""
         if len(words) > LONGEST_LINE:
             raise Wrong(f"words of more than {LONGEST_LINE:,} letters")
         if time.monotonic() > client.until:
@@ -100,10 +97,8 @@ class Control:
         return self.change(words)
 
     def change(self, words: str) -> list[ObeyedLine]:
-        """Makes the host apply words; returns each line with its moment in ns, or with the reason for a refusal.
-
-        Wrong: the words produce no line.
-        """
+        """Makes the host apply words; returns each line with its moment in ns, or with the reason for a refusal. Wrong: the words
+        produce no line."""
         moment = self.moment()
         new = self.obey(words, moment)
         if isinstance(new, ObeyedLine):
@@ -147,7 +142,6 @@ class Control:
         return answer.moment
 
     def asked_of_host(self, line: str, later: int = 0) -> ObeyedLine:
-        """Makes the host apply a line after `later` ns; returns the pipe's line from then on, unless another change comes
-        first."""
+        """Makes the host apply a line after `later` ns; returns the pipe's line from then on, unless another change comes first."""
         answer = self.lines.ask(f"at {later} {line}" if later else f"line {line}", self.until, self.is_wanted)
         return ObeyedLine(answer.moment + later, answer.line or line, answer.wrong)

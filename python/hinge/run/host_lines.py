@@ -29,8 +29,7 @@ class Answer(NamedTuple):
 class HostLines:
     """Sends lines to the host, which replies to each in order.
 
-    A line that the host hasn't read when the client leaves is withdrawn, so the host never applies a line too late.
-    """
+    A line that the host hasn't read when the client leaves is withdrawn, so the host never applies a line too late."""
 
     def __init__(self) -> None:
         self.own, self.hosts = socket.socketpair(socket.AF_UNIX, socket.SOCK_SEQPACKET)

@@ -127,8 +127,7 @@ def interface_route(
 ) -> Request:
     """Returns a route through an interface, to an address or to a network with `bits` bits.
 
-    `source` is the source address for packets without an address. The route with the lowest metric wins.
-    """
+    `source` is the source address for packets without an address. The route with the lowest metric wins."""
     family, data = family_and_bytes(text)
     before, behind = around_address(family, index, source, 8 * len(data) if bits is None else bits, table, metric, gateway)
     return Request(NEWROUTE, before + data + behind, may_fail)

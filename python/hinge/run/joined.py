@@ -1,10 +1,8 @@
-"""A link inside an existing network such as a container's: between its programs and its interface, for IPv4, with routing
-rules.
+"""A link inside an existing network such as a container's: between its programs and its interface, for IPv4, with routing rules.
 
 Packets from its programs enter a tun interface, pass the link, leave through a second tun interface, and continue on their old
-route. Packets to its programs pass the other way. When the host ends, for any reason, its interfaces and their routes
-disappear, and the remaining rules send all packets the old way. The end of the run, or the next run there, removes these rules.
-"""
+route. Packets to its programs pass the other way. When the host ends, for any reason, its interfaces and their routes disappear,
+and the remaining rules send all packets the old way. The end of the run, or the next run there, removes these rules."""
 
 from __future__ import annotations
 

@@ -1,5 +1,4 @@
-"""The order for a run: the link's plan, its outputs and its limits, according to the command line; and the report at the end.
-"""
+"""The order for a run: the link's plan, its outputs and its limits, according to the command line; and the report at the end."""
 
 from __future__ import annotations
 

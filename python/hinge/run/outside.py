@@ -1,7 +1,6 @@
 """The outside network behind a host. pasta or slirp4netns runs in the system's network and connects the host's room to the outside.
 
-IPv6 is connected if the system has an IPv6 route.
-"""
+IPv6 is connected if the system has an IPv6 route."""
 
 from __future__ import annotations
 
@@ -43,11 +42,10 @@ PATIENCE = 20  # s
 
 
 def words_for(process: str, own_users: bool, ipv6: bool, loopback: bool, outer: Side) -> list[str]:
-    """Returns the command that connects a process's network to this one: slirp4netns if installed, otherwise pasta, which
-    refuses root.
+    """Returns the command that connects a process's network to this one: slirp4netns if installed, otherwise pasta, which refuses
+    root.
 
-    Unless told otherwise, both map the gateway to the system's loopback, and servers there would see local callers.
-    """
+    Unless told otherwise, both map the gateway to the system's loopback, and servers there would see local callers."""
     network, users = f"/proc/{process}/ns/net", f"/proc/{process}/ns/user"
     if shutil.which("slirp4netns"):
         more = [*["--enable-ipv6"] * ipv6, *["--disable-host-loopback"] * (not loopback), *[f"--userns-path={users}"] * own_users]
@@ -112,8 +110,7 @@ class Outside:
     def join(self, network: int, interfaces: Sequence[str], others: Sequence[str]) -> bool:
         """Waits for the interface, then forwards packets between it and `interfaces`. Runs in the first process.
 
-        `others` are the IPv6 addresses behind these interfaces. Returns whether IPv6 works too. Missing: there is no way out.
-        """
+        `others` are the IPv6 addresses behind these interfaces. Returns whether IPv6 works too. Missing: there is no way out."""
         enter(network)
         for name in ("accept_dad", "accept_ra"):
             # else it asks for a second whether its address is another's

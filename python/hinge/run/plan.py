@@ -1,9 +1,8 @@
-"""The plan for the host hinge-link, as text with a line for each item, whose forms hosts/link/plan.c lists. This module reads files, and
-needs no other system call.
+"""The plan for the host hinge-link, as text with a line for each item, whose forms hosts/link/plan.c lists. This module reads
+files, and needs no other system call.
 
 WAY 0 is up, from the client through pipe 1, and WAY 1 is down, from the server through pipe 2. A second link uses ways 2 and 3 and
-pipes 3 and 4, and so on. The words for a link always call its pipes 1 and 2.
-"""
+pipes 3 and 4, and so on. The words for a link always call its pipes 1 and 2."""
 
 from __future__ import annotations
 
@@ -397,9 +396,8 @@ class Plan:
     def trace(self, way: int, path: str, bin_ns: Optional[int], lasting: int) -> None:
         """Makes a way's bandwidth follow a file. Wrong: the pipe isn't configured.
 
-        mahimahi's moments apply separately if there is no bin length and the pipe is a single queue. Otherwise they are counted
-        in bins, which repeat for `lasting` ns.
-        """
+        mahimahi's moments apply separately if there is no bin length and the pipe is a single queue. Otherwise they are counted in
+        bins, which repeat for `lasting` ns."""
         line = self.current.get(Target("pipe", way + 1))
         if line is None:
             raise Wrong(f"{path}: pipe {way + 1} isn't configured")

@@ -1,10 +1,7 @@
-"""Two rooms, which are network namespaces for the client and the server. Only the host connects them, through two tun
-interfaces.
+"""Two rooms, which are network namespaces for the client and the server. Only the host connects them, through two tun interfaces.
 
-Everything depends on one process, the first in a PID namespace. When the process ends, for example because `hinge run` was
-killed, the kernel ends all processes in the rooms and removes the rooms. No root is needed if users may create namespaces.
-Linux only.
-"""
+Everything depends on one process, the first in a PID namespace. When the process ends, for example because `hinge run` was killed,
+the kernel ends all processes in the rooms and removes the rooms. No root is needed if users may create namespaces. Linux only."""
 
 from __future__ import annotations
 
@@ -137,8 +134,7 @@ def furnish() -> int:
 def put_over(path: str, text: str) -> None:
     """Replaces a file in these namespaces only. The text is on an unnamed file system, so nothing remains after the run.
 
-    The file keeps a name there, so that a nested run can do the same.
-    """
+    The file keeps a name there, so that a nested run can do the same."""
     refuse_system()
     folder = temporary_place()
     product = os.path.join(folder, "made")
@@ -166,8 +162,7 @@ def prefer_ipv4() -> bool:
 def add_names(names: str, of_six: str, example: str, address: str) -> None:
     """Makes hosts known by name in these namespaces. `names` contains lines for /etc/hosts, including one for `example`.
 
-    `of_six` adds IPv6 addresses to the names, if the C library prefers IPv4.
-    """
+    `of_six` adds IPv6 addresses to the names, if the C library prefers IPv4."""
     names += of_six * prefer_ipv4()
     try:
         all_names = names + read_system(at_root("/etc/hosts"))
@@ -191,8 +186,7 @@ def why_not(name: str, error: OSError) -> str:
 
 
 def start(words: Sequence[str], mask: Mask, enter_room: Callable[[], None], own_users: bool) -> int:
-    """Starts a command in the room that `enter_room` enters; returns its process. The command blocks the signals in `mask`
-    only."""
+    """Starts a command in the room that `enter_room` enters; returns its process. The command blocks the signals in `mask` only."""
 
     def enter_and_execute() -> int:
         enter_room()

@@ -28,8 +28,7 @@ def times(way: Way) -> dict[str, float]:
 def judged(name: str, way: Way, drops: int, limit: float) -> Iterator[str]:
     """Yields the reasons not to trust a direction, with a limit in ms.
 
-    The limit also applies to shares of the time, since a stall may last long but affect few packets.
-    """
+    The limit also applies to shares of the time, since a stall may last long but affect few packets."""
     result = times(way)
     for label in ("late", "unread"):
         value, of_time = result[f"{label}_p99_ms"], result[f"{label}_time_p99_ms"]

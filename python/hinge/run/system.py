@@ -80,8 +80,7 @@ def keep_mounts_to_itself() -> None:
     """Keeps this namespace's mounts from spreading to other namespaces.
 
     The kernel only accepts this at the root of a file system, which a chroot's root isn't. So the call uses the namespace's
-    root.
-    """
+    root."""
     try:
         mount("none", "/", "none", REC | PRIVATE)
     except OSError as error:

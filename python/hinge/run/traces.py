@@ -114,8 +114,7 @@ def counted(path: str, moments: Moments, bin_ns: int, longest: int) -> list[Rate
     """Returns a rate for each bin of moments; equal rates in a row are merged, and the last bin ends with the period.
 
     Within bins that contain no moment, the longest packet leaves in as much time as they last. Wrong: bins are too long or too
-    many.
-    """
+    many."""
     period = moments[-1] * MS
     if bin_ns > period:
         raise Wrong(f"{path}: the bin is longer than the trace, which begins anew after {moments[-1]} ms")

@@ -1,7 +1,6 @@
 """The users of the rooms: this process's user, and subordinate users if the system provides some (subuid(5)).
 
-Servers then find the groups to which they assign files, such as the group of terminals.
-"""
+Servers then find the groups to which they assign files, such as the group of terminals."""
 
 from __future__ import annotations
 
@@ -50,8 +49,7 @@ def mapping(own: int, span: Subordinate) -> list[str]:
 class Users:
     """Maps users. Create it before the process leaves the system's users.
 
-    A child process stays behind, and maps the new namespace's users on request.
-    """
+    A child process stays behind, and maps the new namespace's users on request."""
 
     def __init__(self) -> None:
         self.child, self.own = 0, {"uid": os.geteuid(), "gid": os.getegid()}
@@ -95,8 +93,7 @@ class Users:
 def make_terminals() -> None:
     """Gives this process a new set of terminals that belongs to the terminals' group, as a login requires.
 
-    If the system refuses, the process keeps the system's terminals.
-    """
+    If the system refuses, the process keeps the system's terminals."""
     with suppress(KeyError, OSError):
         group = grp.getgrnam("tty").gr_gid
         unshare(NEWNS)

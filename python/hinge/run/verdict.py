@@ -37,9 +37,8 @@ def late_acts(acts: Sequence[Done], main: Optional[int], limit: float) -> Iterat
 
 
 def some(kind: str, texts: Iterable[str]) -> Iterator[str]:
-    """Yields one line with the first few texts (MOST_TOLD) and the number of further texts, or no line if there are no texts.
-    The further texts are counted without being kept in memory.
-    """
+    """Yields one line with the first few texts (MOST_TOLD) and the number of further texts, or no line if there are no texts. The
+    further texts are counted without being kept in memory."""
     rest = iter(texts)
     if first := [*islice(rest, MOST_TOLD)]:
         more = sum(1 for _ in rest)

@@ -41,9 +41,8 @@ class SearchSettings(NamedTuple):
 
 
 class RunFiles(NamedTuple):
-    """Settings for a run whose machine a search examines afterwards: extra lines for /proc/pauses, the processes that leave a
-    core, and the transcript's path.
-    """
+    """Settings for a run whose machine a search examines afterwards: extra lines for /proc/pauses, the processes that leave a core,
+    and the transcript's path."""
 
     more: "tuple[str, ...]" = ()  # as in Settings
     cores: str = NO_CORES

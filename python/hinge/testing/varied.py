@@ -1,7 +1,6 @@
 """A test network varied by its seed.
 
-With losses only, all tasks run in step: no period ever meets another one differently.
-"""
+With losses only, all tasks run in step: no period ever meets another one differently."""
 
 from __future__ import annotations
 
