@@ -1,4 +1,4 @@
-"""The IPv6 addresses behind a packet file's IPv4 stand-ins, in a file beside it: `packets.csv.addresses`."""
+"""The IPv6 addresses behind a packet file's IPv4 stand-ins, in a second file such as `packets.csv.addresses`."""
 
 from __future__ import annotations
 

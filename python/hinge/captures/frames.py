@@ -60,7 +60,7 @@ class Packet(NamedTuple):
 
 
 class FrameCounts(NamedTuple):
-    """The counts of packets by result."""
+    """Packet counts, with a field for each result."""
 
     rows: int
     bytes: int

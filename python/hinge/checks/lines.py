@@ -170,7 +170,7 @@ class LineCheck:
         return explained(line, text) + f"; in full: {whole}" * (whole is not None and whole != line)
 
     def refused(self, verdict: Verdict) -> str:
-        """Why a command that is well written has no effect."""
+        """Returns why a well-written command has no effect."""
         words = verdict.text.split()
         if verdict.name == "pipe-has-queues":
             return f"a queue still names pipe {words[-1]}; delete the queue first, or move it"

@@ -163,7 +163,7 @@ def leads_out_in_ipv6() -> bool:
 
 @kept_as_step
 def open_tun(name: str, flags: int, offload: int, persists: bool) -> int:
-    """A descriptor of a new interface. Missing: the system refuses an interface."""
+    """Returns a new interface's descriptor. Missing: the system refuses an interface."""
     try:
         descriptor = os.open("/dev/net/tun", os.O_RDWR | os.O_CLOEXEC)
     except OSError as error:

@@ -140,7 +140,7 @@ def counted(path: str, moments: Moments, bin_ns: int, longest: int) -> list[Rate
 
 
 def read_trace(path: str, noted: Callable[[Iterable[str]], Iterable[str]]) -> Trace:
-    """The trace of a file, whose lines are noted. Wrong: the file contains no rows of a trace."""
+    """Returns a file's trace, and notes its lines. Wrong: the file contains no rows of a trace."""
     with untrusted(path):
         rows = rows_of(noted(read_lines(path, None)))
         first = next(rows, None)

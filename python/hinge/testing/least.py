@@ -92,7 +92,7 @@ class Trials:
         return Drawn(*(line for part in least(whole, fails).parts for line in part.what)) if fails(whole) else None
 
     def drawn(self, runs: int) -> Optional[Trial]:
-        """Faults that hypothesis finds and shrinks."""
+        """Returns faults that hypothesis finds and shrinks."""
         from hypothesis import HealthCheck, errors, find, settings
 
         net = self.network().net
@@ -113,7 +113,7 @@ class Trials:
             yield Trial(seed=seed, variation=own if str(own) else VARIATIONS[seed % len(VARIATIONS)])
 
     def found(self, runs: int) -> Optional[Trial]:
-        """Faults with which a test fails that passes without them."""
+        """Returns faults that make a passing test fail."""
         if not any(link.came for link in self.network().net.links.values()):
             return None
         trial = self.drawn(runs)
