@@ -74,13 +74,8 @@ def add_source(
 
 def add_flows(line: argparse.ArgumentParser, most: int, default: Optional[int], text: str) -> None:
     """Adds the options that group flows and set the number of groups."""
-    add(
-        line,
-        "--by",
-        "what a flow is: packets of a five-tuple (the default), a flow of dummynet, or all packets to a pipe or queue",
-        choices=WAYS,
-        default="tuple",
-    )
+    kinds = "what a flow is: packets of a five-tuple (the default), a flow of dummynet, or all packets to a pipe or queue"
+    add(line, "--by", kinds, choices=WAYS, default="tuple")
     add(line, "--top N", f"the N largest flows, the rest as one (default: {text})", type=bounded(1, most), default=default)
 
 

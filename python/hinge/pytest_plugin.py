@@ -48,18 +48,13 @@ def faults_file(path: str) -> str:
 def pytest_addoption(parser: pytest.Parser) -> None:
     group = parser.getgroup("hingetulip")
     group.addoption("--link-seed", type=int, default=1, metavar="N", help="seed of emulated links (default: 1)")
-    group.addoption(
-        "--link-faults", type=faults_file, metavar="FILE", help="the faults of sim_net's links, in the place of their losses"
-    )
+    faults = "the faults of sim_net's links, in the place of their losses"
+    group.addoption("--link-faults", type=faults_file, metavar="FILE", help=faults)
     group.addoption("--link-shrink", action="store_true", help="tell the fewest faults with which a test with sim_net fails")
-    group.addoption(
-        "--link-search",
-        action="store_true",
-        help="look for faults with which a test with sim_net fails, by hypothesis and by seeds",
-    )
-    group.addoption(
-        "--link-runs", type=int, default=60, metavar="N", help="how many runs of each kind --link-search tries (default: 60)"
-    )
+    search = "look for faults with which a test with sim_net fails, by hypothesis and by seeds"
+    group.addoption("--link-search", action="store_true", help=search)
+    runs = "how many runs of each kind --link-search tries (default: 60)"
+    group.addoption("--link-runs", type=int, default=60, metavar="N", help=runs)
     parser.addini("link_start", "when simulated time begins, as 2026-11-30 or 2026-11-30T08:00", default="")
 
 

@@ -247,11 +247,8 @@ class Unpacked:
         data: bytes = self.file.read1(size)
         self.count += len(data)
         if self.count > self.FREE + self.TIMES * self.packed.count:
-            raise Fault(
-                f"{self.name}: it unpacks to more than {self.TIMES} times its length; if that is right, "
-                "`zcat FILE |` before hinge, and `-` as its name, read it",
-                ROWS,
-            )
+            right = "if that is right, `zcat FILE |` before hinge, and `-` as its name, read it"
+            raise Fault(f"{self.name}: it unpacks to more than {self.TIMES} times its length; {right}", ROWS)
         return data
 
 

@@ -63,11 +63,8 @@ class NetPicture:
             out = np.flatnonzero((passages.pipe == way.pipe) & (passages.event == OUT))
             places = out[spread(np.arange(len(out)), MOST_DOTS)]
             if len(places):
-                items.append(
-                    Points(
-                        way.name, places, passages.came[places] / SECOND, (passages.due - passages.came)[places] / MS, color, number
-                    )
-                )
+                x, y = passages.came[places] / SECOND, (passages.due - passages.came)[places] / MS
+                items.append(Points(way.name, places, x, y, color, number))
         return Panel("Delay on each way", "came at, s", "ms", items) if items else None
 
     def cuts(self) -> Optional[Panel]:
@@ -79,9 +76,8 @@ class NetPicture:
             x = np.array([moment for begin, end in times for moment in (begin, end, end)]) / SECOND
             y = np.array([level for _ in times for level in (place, place, np.nan)], float)
             color = next((color for way, color in self.ways if way.pipe == pipe), RESTS[place % len(RESTS)])
-            items.append(
-                Line(f"{place}: {name}, {sum(end - begin for begin, end in times) / SECOND:.3g} s", x, y, color, width=CUT_WIDTH)
-            )
+            length = sum(end - begin for begin, end in times) / SECOND
+            items.append(Line(f"{place}: {name}, {length:.3g} s", x, y, color, width=CUT_WIDTH))
         return Panel("Ways that lose all packets", "s", "", items, most=len(items) + 1, is_whole=True) if items else None
 
     def drops(self) -> Optional[Panel]:
@@ -117,9 +113,8 @@ class NetPicture:
         items: list[Item] = []
         for place, column in enumerate(path.links.T):
             hops = [(f"in {hosts[place]}", path.hosts[:, place - 1], PIPES[0][0])] if place else []
-            hops.append(
-                (f"from {hosts[place]} to {hosts[place + 1]}", column, colors.get(path.pipes[place], RESTS[place % len(RESTS)]))
-            )
+            color = colors.get(path.pipes[place], RESTS[place % len(RESTS)])
+            hops.append((f"from {hosts[place]} to {hosts[place + 1]}", column, color))
             for name, times, color in hops:
                 mean = np.bincount(of, weights=times, minlength=self.count) / np.maximum(counts, 1) / MS
                 items.append(Bars(name, self.edges[:-1], self.step / SECOND, mean, color))
@@ -145,6 +140,5 @@ class NetPicture:
             for way, color in self.ways
         ]
         shades = dict.fromkeys((begin / SECOND, end / SECOND) for times in self.timeline.cuts.values() for begin, end in times)
-        return Drawing(
-            panels, keys, "", self.timeline.span / SECOND, below, "Ways, those with most packets first", shades=tuple(shades)
-        )
+        heading = "Ways, those with most packets first"
+        return Drawing(panels, keys, "", self.timeline.span / SECOND, below, heading, shades=tuple(shades))

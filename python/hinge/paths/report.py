@@ -89,9 +89,7 @@ def ways(matching: Matched) -> list[WayFigures]:
         delay = (passages.due - passages.came)[out]
         mean, p99 = (int(delay.mean()), int(np.quantile(delay, 0.99, method="higher"))) if len(delay) else (None, None)
         if own.any():
-            packets, losses, full = (
-                int(part.sum()) for part in (own, *(own & (passages.event == event) for event in (LOST, FULL)))
-            )
+            packets, losses, full = (int((own & which).sum()) for which in (own, passages.event == LOST, passages.event == FULL))
             span, ends = int(np.ptp(passages.due[out])) if len(delay) else 0, (topology.hosts[start], topology.hosts[end])
             items.append(WayFigures(pipe, ends, packets, losses, full, int(passages.length[out].sum()), span, mean, p99))
     return items
@@ -115,11 +113,10 @@ def of_paths(matching: Matched, top: int) -> Iterator[str]:
     for path in text[:top]:
         in_links, in_hosts = path.links.mean(axis=0), path.hosts.mean(axis=0)
         links, hosts = (" + ".join(f"{time / MS:.3f}" for time in times) for times in (in_links, in_hosts))
-        yield (
-            f"{' - '.join(hosts_of(matching, path))}: {len(path.sent):,} packets,"
-            f" {(in_links.sum() + in_hosts.sum()) / MS:.3f} ms: links {links}, hosts {hosts}, at most"
-            f" {path.most_in_hosts / MS:.3f}"
+        head = (
+            f"{' - '.join(hosts_of(matching, path))}: {len(path.sent):,} packets, {(in_links.sum() + in_hosts.sum()) / MS:.3f} ms"
         )
+        yield f"{head}: links {links}, hosts {hosts}, at most {path.most_in_hosts / MS:.3f}"
     if len(text) > top:
         yield f"{len(text) - top} other paths"
 
@@ -136,11 +133,9 @@ def of_faults(matching: Matched, files: list[str]) -> Iterator[str]:
             host = topology.hosts[passages.end[row] if is_lost else passages.start[row]]
             moment = passages.due[row] if is_lost else passages.came[row]
             content = int(passages.content[row]) % 2**64  # which is read as signed
-            yield (
-                f"  {files[passages.file[row]]} line {passages.line[row]}: {host} {'got' if is_lost else 'sent'} a packet"
-                f" of {passages.length[row]} bytes at "
-                f"{moment / MS:.6f} ms, content {content:016x}"
-            )
+            packet = f"a packet of {passages.length[row]} bytes at {moment / MS:.6f} ms, content {content:016x}"
+            head = f"  {files[passages.file[row]]} line {passages.line[row]}"
+            yield f"{head}: {host} {'got' if is_lost else 'sent'} {packet}"
 
 
 def summary(matching: Matched) -> str:

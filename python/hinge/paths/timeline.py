@@ -107,11 +107,8 @@ def told_changes(matching: Matched, line: Timeline) -> Iterator[str]:
     """Yields a line for the simultaneous changes of each kind."""
     groups: list[list[WayChange]] = []
     for change in line.changes:
-        like = [
-            group
-            for group in groups
-            if change.moment - group[0].moment < AT_ONCE and words_of_change(group[0]) == words_of_change(change)
-        ]
+        late = [group for group in groups if change.moment - group[0].moment < AT_ONCE]
+        like = [group for group in late if words_of_change(group[0]) == words_of_change(change)]
         like[-1].append(change) if like else groups.append([change])
     for group in groups:
         names = ", ".join(dict.fromkeys(name_of_way(matching, change.pipe) for change in group))

@@ -146,10 +146,8 @@ def announce(name: str, text: str) -> None:
         teller.setsockopt(socket.IPPROTO_IPV6, FREEBIND, 1)
         teller.setsockopt(socket.IPPROTO_IPV6, socket.IPV6_MULTICAST_HOPS, 255)
         teller.bind((text, 0))
-        teller.sendto(
-            struct.pack("!BBHI", ADVERTISEMENT, 0, 0, OVERRIDE) + socket.inet_pton(socket.AF_INET6, text),
-            ("ff02::1", 0, 0, index),
-        )
+        head = struct.pack("!BBHI", ADVERTISEMENT, 0, 0, OVERRIDE)
+        teller.sendto(head + socket.inet_pton(socket.AF_INET6, text), ("ff02::1", 0, 0, index))
 
 
 def leads_out_in_ipv6() -> bool:

@@ -75,12 +75,9 @@ def way_out() -> WayOut:
 
 
 def rule(kind: int, priority: int, table: int, comes_by: str = "") -> None:
-    inputs = [(COMES_BY, comes_by.encode() + b"\0")] if comes_by else []
-    ask_kernel(
-        kind,
-        struct.pack("BBBBBBBBI", socket.AF_INET, 0, 0, 0, 0, 0, 0, TO_TABLE, 0),
-        [*inputs, (PRIORITY, struct.pack("I", priority)), (TABLE, struct.pack("I", table))],
-    )
+    attributes = [(PRIORITY, struct.pack("I", priority)), (TABLE, struct.pack("I", table))]
+    attributes[:0] = [(COMES_BY, comes_by.encode() + b"\0")] if comes_by else []
+    ask_kernel(kind, struct.pack("BBBBBBBBI", socket.AF_INET, 0, 0, 0, 0, 0, 0, TO_TABLE, 0), attributes)
 
 
 def rules(by: str) -> list[tuple[int, str]]:

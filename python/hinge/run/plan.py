@@ -193,12 +193,8 @@ class Plan:
         from hinge.fault_lines import CUT, HOLD, spelled as spelled_time
 
         if act.kind not in (CUT, HOLD) or act.of not in names:
-            hint = (
-                f"write `at {spelled_time(act.moment)} cut {names[0]} 2s` or `hold`"
-                if names
-                else "write it as a line `at` of the net"
-            )
-            raise ValueError(f"{path}: '{act}': no cut or hold of a link; {hint}")
+            right = f"`at {spelled_time(act.moment)} cut {names[0]} 2s` or `hold`" if names else "it as a line `at` of the net"
+            raise ValueError(f"{path}: '{act}': no cut or hold of a link; write {right}")
         way = "up" if act.of == names[0] else "down"
         event = link_event(f"{way} outage {spelled_time(act.seconds)}{' lossy' * (act.kind == CUT)}", path)
         self.happen(event, round(act.moment * SECOND), str(act))

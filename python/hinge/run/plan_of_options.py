@@ -176,11 +176,8 @@ def plan_of(options: LiveOptions, longest: int) -> Plan:
         if path:
             bin_ns = max(BIN_LEAST, duration(options.bin, "--bin")) if options.bin else None
             plan.trace(way, path, bin_ns, duration(options.trace_for or TRACE_LASTING, "--trace-for"))
-    refuse_idle(
-        plan,
-        [f"--{name}" if getattr(options, name) is not None else f"pipe {way + 1}" for name, way in WAYS.items()],
-        bool(options.control),
-    )
+    places = [f"--{name}" if getattr(options, name) is not None else f"pipe {way + 1}" for name, way in WAYS.items()]
+    refuse_idle(plan, places, bool(options.control))
     refuse_idle_options(options, plan, draws(plan))
     return plan
 

@@ -125,15 +125,13 @@ class Processes:
         """Ends all commands, by name and process, and returns how each ended. `start` is their start on the monotonic clock."""
         self.reap()
         themselves = {name for name, process in processes.items() if process in self.ended}
-        victims = self.end_all([process for name, process in processes.items() if name not in themselves], patience)
-        return {
-            name: Ended(
-                self.ended.get(process, SIGNALLED + signal.SIGKILL),
-                round(self.ended_at.get(process, time.monotonic()) - start, 3),
-                "itself" if name in themselves else "SIGKILL" if process in victims else "SIGTERM",
-            )
-            for name, process in processes.items()
-        }
+        others = [process for name, process in processes.items() if name not in themselves]
+        victims, endings = self.end_all(others, patience), dict[str, Ended]()
+        for name, process in processes.items():
+            after = round(self.ended_at.get(process, time.monotonic()) - start, 3)
+            by = "itself" if name in themselves else "SIGKILL" if process in victims else "SIGTERM"
+            endings[name] = Ended(self.ended.get(process, SIGNALLED + signal.SIGKILL), after, by)
+        return endings
 
     def is_there(self, process: int) -> bool:
         """Returns whether the process, or a member of its group, exists."""

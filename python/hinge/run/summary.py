@@ -78,12 +78,10 @@ SELDOM = (
 
 def direction(name: str, way: Way, drops: int) -> str:
     """Returns the counts of a direction. Excessive lateness is reported; the record always contains it."""
-    text = (
-        f"{way['came']} came, {way['sent']} delivered, {way['lost']} lost, {way['full']} met a full queue, {way.underway} under way"
-    )
+    text = f"{way['came']} came, {way['sent']} delivered, {way['lost']} lost, {way['full']} met a full queue"
     seldom = "".join(f", {way[key]} {words}" for key, words in SELDOM if way[key])
     drops_text = f", the system dropped {drops} before the link and {way['refused']} behind it" * bool(drops or way["refused"])
-    return f"{name}: {text if way['came'] else 'nothing came'}{seldom}{drops_text}"
+    return f"{name}: {f'{text}, {way.underway} under way' if way['came'] else 'nothing came'}{seldom}{drops_text}"
 
 
 def line(counts: Counts, drops: Sequence[int]) -> str:

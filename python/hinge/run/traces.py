@@ -129,12 +129,8 @@ def counted(path: str, moments: Moments, bin_ns: int, longest: int) -> list[Rate
         while end < len(counts) - 1 and counts[end] == counts[at] and at < len(counts) - 1:
             end += 1
         length = min(end * bin_ns, period) - at * bin_ns
-        rate = (
-            counts[at] * (end - at) * MAHIMAHI_BYTES * 8 * SECOND // length
-            if counts[at]
-            else max(1, longest * 8 * SECOND // length)
-        )
-        result.append(Rate(at * bin_ns, rate))
+        rate = counts[at] * (end - at) * MAHIMAHI_BYTES * 8 * SECOND // length
+        result.append(Rate(at * bin_ns, rate if counts[at] else max(1, longest * 8 * SECOND // length)))
         at = end
     return result
 

@@ -137,12 +137,10 @@ class Waits:
     def over(self, limit: float) -> list[str]:
         """Returns the hosts that waited for more than a share of the time, and in some second for more than the limit in ms."""
         ran = time.monotonic() - self.begun
-        hosts = sorted(
-            (-total, host) for host, total in self.totals.items() if total > PART * ran * 1e3 and self.most[host] > limit
-        )
+        over = {host: ms for host, ms in self.totals.items() if ms > PART * ran * 1e3 and self.most[host] > limit}
+        hosts, much = sorted(over, key=lambda host: (-over[host], host)), f"over {limit:g} ms in a second"
         lines = [
-            f"programs of {host} waited {-total:.0f} ms of {ran:.1f} s for a processor (over {limit:g} ms in a second)"
-            for total, host in hosts[:MOST_TOLD]
+            f"programs of {host} waited {over[host]:.0f} ms of {ran:.1f} s for a processor ({much})" for host in hosts[:MOST_TOLD]
         ]
         return lines + [f"so did those of {len(hosts) - MOST_TOLD} more hosts"] * (len(hosts) > MOST_TOLD)
 

@@ -68,11 +68,8 @@ def smallest(runs: Runs, seed: int) -> "tuple[Case, int]":
 
     whole = next(filter(fails, cases_of(runner, seed, ran.record)), None)
     if whole is None:
-        raise Fault(
-            f"seed {seed} fails, but not with its faults as lines and its pauses one by one: "
-            f"{command_of(runner.asked, runner.asked.what, seed, runner.asked.pauses)}",
-            NOT_AGAIN,
-        )
+        line = command_of(runner.asked, runner.asked.what, seed, runner.asked.pauses)
+        raise Fault(f"seed {seed} fails, but not with its faults as lines and its pauses one by one: {line}", NOT_AGAIN)
     return least(whole, fails), len(trial)
 
 
@@ -91,10 +88,9 @@ def tell_least(runner: Runner, name: str, case: Case, count: int, file: Path) ->
     for line in cause_lines(runner, case, look):
         show(line)
     show(f"seed {case.seed} fails by {name} with {case.told()}, found in {several(count, 'run')}")
-    sure = (
-        "repeats it, here and elsewhere" if look.ran.record.get("repeatable") else "may repeat it: the run says why it may differ"
-    )
-    show(f"hinge {what[0]} --like {shlex.quote(str(file))} {sure}")
+    is_sure = look.ran.record.get("repeatable")
+    repeats = "repeats it, here and elsewhere" if is_sure else "may repeat it: the run says why it may differ"
+    show(f"hinge {what[0]} --like {shlex.quote(str(file))} {repeats}")
 
 
 def search(options: SearchSettings, seeds: list[int], at_a_time: int, failure: Path, folder: Path) -> int:
