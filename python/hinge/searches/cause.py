@@ -73,7 +73,7 @@ def lines_of_losses(what: "list[str]", losses: "list[Lost]") -> Iterator[str]:
 
 def losses_in(what: "list[str]", machine: Machine) -> "Optional[list[Lost]]":
     """Returns the lost packets of a machine's transcript."""
-    paths = sorted(machine.room.kept.glob(f"{HISTORY}*"), key=lambda path: (len(path.name), path.name))
+    paths = sorted(machine.room.kept.glob(f"{MACHINE_HISTORY}*"), key=lambda path: (len(path.name), path.name))
     return packets_lost(paths, len(way_names(what)))
 
 

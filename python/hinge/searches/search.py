@@ -14,7 +14,6 @@ from hinge.outputs import writing
 from hinge.searches.case import Case, case_of, least
 from hinge.searches.cause import Lost, cause_lines, lines_of_losses, losses_in, repetition_of
 from hinge.searches.runs import RunFiles, Runner, Runs, SearchSettings, command_words
-from hinge.searches.shrinking import least
 from hinge.simulated.failures import NET_KEY, WORDS_KEY
 from hinge.simulated.start import MACHINE_HISTORY
 
