@@ -58,21 +58,36 @@ def text_of(matching: Matched, line: Timeline, top: int, files: list[str]) -> It
 
 def look_record(matching: Matched, line: Timeline, history: str, seed: str | None) -> dict[str, Any]:
     """Returns the record for JSON; docs/LIVE.md describes its keys."""
-    pipes, hosts = matching.passages.topology.pipes, matching.passages.topology.hosts
-    ends: dict[int, dict[str, Any]] = {
-        pipe: {"pipe": pipe, "from": hosts[start], "to": hosts[end]} for pipe, (start, end) in pipes.items()
-    }
-    front = {"format": FORMAT, "history": history, "seed": seed, "span_ns": line.span, "lawful_between_links": matching.is_lawful}
-    return front | {
+    pipes = matching.passages.topology.pipes
+    hosts = matching.passages.topology.hosts
+    ends = {pipe: {"pipe": pipe, "from": hosts[start], "to": hosts[end]} for pipe, (start, end) in pipes.items()}
+    return {
+        "format": FORMAT,
+        "history": history,
+        "seed": seed,
+        "span_ns": line.span,
+        "lawful_between_links": matching.is_lawful,
         "ways": [
-            {**ends[way.pipe], "packets": way.packets, "lost": way.lost, "full": way.full}
-            | {"carried_mbit_s": way.mbit_s, "mean_ns": way.mean, "p99_ns": way.p99}
+            {
+                **ends[way.pipe],
+                "packets": way.packets,
+                "lost": way.lost,
+                "full": way.full,
+                "carried_mbit_s": way.mbit_s,
+                "mean_ns": way.mean,
+                "p99_ns": way.p99,
+            }
             for way in ways(matching)
         ],
         "paths": [
-            {"hosts": hosts_of(matching, path), "pipes": list(path.pipes), "packets": len(path.sent)}
-            | {f"{kind}_ns": getattr(path, kind).mean(axis=0).astype(int).tolist() for kind in ("links", "hosts")}
-            | {"most_in_hosts_ns": path.most_in_hosts}
+            {
+                "hosts": hosts_of(matching, path),
+                "pipes": list(path.pipes),
+                "packets": len(path.sent),
+                "links_ns": [int(time) for time in path.links.mean(axis=0)],
+                "hosts_ns": [int(time) for time in path.hosts.mean(axis=0)],
+                "most_in_hosts_ns": path.most_in_hosts,
+            }
             for path in paths(matching)
         ],
         "changes": [
