@@ -31,7 +31,9 @@ def one_by_one(shaper: hingetulip.Shaper, count: int) -> int:
 
 def by_columns(shaper: hingetulip.Shaper, count: int) -> int:
     """A submit_many and a collect_many for 1,000 packets, whose moments are written anew."""
-    came, packets, lasting = 0, hingetulip.Packets(1000, moment=0, length=1000, pipe=1, word=0), 1000 * STEP
+    came = 0
+    packets = hingetulip.Packets(1000, moment=0, length=1000, pipe=1, word=0)
+    lasting = 1000 * STEP
     for first in range(0, count * STEP, lasting):
         packets.moment[:] = array("Q", range(first, first + lasting, STEP))
         shaper.submit_many(packets)

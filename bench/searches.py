@@ -37,7 +37,8 @@ def used() -> float:
 
 def searched(words: "list[str]", seeds: int) -> Price:
     """As `hinge search run` makes its runs, without the shrinking."""
-    runner, before = Runner(SearchSettings(["run"], "drawn", None, "1h", words)), used()
+    runner = Runner(SearchSettings(["run"], "drawn", None, "1h", words))
+    before = used()
     return Price(sum(runner.run(["run"], seed, "drawn").failed for seed in range(1, seeds + 1)), seeds, used() - before)
 
 

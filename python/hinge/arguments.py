@@ -54,8 +54,8 @@ def file_of(*formats: Format) -> Callable[[str], str]:
 
     def name(text: str) -> str:
         if not text.lower().endswith(endings):
-            table = "--csv " * text.endswith(".csv") + f"> {shlex.quote(text)}"
-            also = f"; in place of -o write {table}" * text.endswith((".csv", ".txt"))
+            table = ("--csv " if text.endswith(".csv") else "") + f"> {shlex.quote(text)}"
+            also = f"; in place of -o write {table}" if text.endswith((".csv", ".txt")) else ""
             raise argparse.ArgumentTypeError(f"{text!r} doesn't end in {', '.join(endings)}{also}")
         return text
 

@@ -45,10 +45,12 @@ KINDS = {"time": (r"\d[\d.]*(ns|us|ms|s|min|h|d)?", "1s"), "number": (r"\d+", "1
 
 def one_way(option: str, value: str) -> tuple[list[str], str]:
     """Returns the option's alternatives for the direction that a value like up:20ms begins with, and the value without the direction."""
-    form, (way, colon, rest) = OPTIONS[option][0], value.partition(":")
+    form = OPTIONS[option][0]
+    (way, colon, rest) = value.partition(":")
     if colon and way in ("up", "down"):
         form = re.sub(rf"--{'down' if way == 'up' else 'up'}\S+ \S+ ?", "", form).strip()
-        form, value = form.replace("--link ", f"--{way} ").replace("s outage ", f"s {way} outage "), rest
+        form = form.replace("--link ", f"--{way} ").replace("s outage ", f"s {way} outage ")
+        value = rest
     return form.split(", or "), value
 
 

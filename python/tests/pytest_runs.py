@@ -59,7 +59,8 @@ class Done:
 
 class Runs(WithFolder):
     def run_pytest(self, body: str, *words: str) -> Done:
-        file, python = self.folder / "test_it.py", str(TOP / "python")
+        file = self.folder / "test_it.py"
+        python = str(TOP / "python")
         file.write_text(COMMON + dedent(body))
         own = {"DUMMYNET": PROGRAM, "PYTHONPATH": python, "PYTHONDONTWRITEBYTECODE": "1", "PYTEST_DISABLE_PLUGIN_AUTOLOAD": "1"}
         options = f"-m pytest -p hinge.pytest_plugin -p no:cacheprovider --basetemp={self.folder}/tmp".split()

@@ -51,7 +51,8 @@ def reply_of(fate: hingetulip.Fate) -> model.Reply:
 
 
 def submitted(shaper: hingetulip.Shaper, call: model.Submit) -> model.Reply:
-    ends, target = call.packet.tuple._asdict(), {call.target.kind: call.target.number}
+    ends = call.packet.tuple._asdict()
+    target = {call.target.kind: call.target.number}
     return reply_of(shaper.submit(call.moment, call.packet.len, **target, **ends, word=call.packet.word))
 
 

@@ -204,7 +204,8 @@ class OfOneThread(unittest.TestCase):
                 return importlib.import_module(name)
 
         def waits(other: Any) -> list[object]:
-            lock, found = copy("_thread").allocate_lock(), [other.time() - time.time(), other.monotonic()]
+            lock = copy("_thread").allocate_lock()
+            found = [other.time() - time.time(), other.monotonic()]
             other.sleep(2)
             found += [lock.acquire(), lock.acquire(timeout=1), copy("select").epoll().poll(1)]
             queues = copy("_queue")

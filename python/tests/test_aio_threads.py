@@ -96,7 +96,10 @@ class Threads(unittest.TestCase):
         return log
 
     def test_locks_queues_events_and_sleeps(self) -> None:
-        queue, simple, event, lock = (Queue[int](), SimpleQueue[int](), threading.Event(), threading.RLock())
+        queue = Queue[int]()
+        simple = SimpleQueue[int]()
+        event = threading.Event()
+        lock = threading.RLock()
 
         def one(log: list[Any]) -> None:
             with lock, lock:

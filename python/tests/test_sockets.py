@@ -208,7 +208,9 @@ class Calls(WithFolder):
 
         async def main(net: aio.Network) -> list[Any]:
             server = await net.hosts[OTHER].create_task(opened(local=("0.0.0.0", 7)))
-            free, bound, later = await opened(), await opened(remote=(OTHER, 7)), Ends()
+            free = await opened()
+            bound = await opened(remote=(OTHER, 7))
+            later = Ends()
             with pytest.raises(TypeError, match="not str"):
                 free.transport.sendto("text", (OTHER, 7))
             with pytest.raises(OSError) as without_peer:

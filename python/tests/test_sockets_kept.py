@@ -79,7 +79,8 @@ class SecondNames(unittest.TestCase):
         """1,000 bytes of IPv6 have 952 of data. An IPv6 socket accepts both, and shows IPv4 addresses in a special form."""
 
         async def main(net: aio.Network) -> list[Any]:
-            loop, made = asyncio.get_running_loop(), udp(socket.AF_INET6)
+            loop = asyncio.get_running_loop()
+            made = udp(socket.AF_INET6)
             server = (await net.hosts[OTHER].create_task(loop.create_datagram_endpoint(lambda: Ends(True), ("::", 7))))[1]
             made.setsockopt(socket.IPPROTO_IPV6, socket.IPV6_V6ONLY, 0)
             made.bind(("::", 5000, 0, 0))
@@ -99,7 +100,9 @@ class SecondNames(unittest.TestCase):
 
     def test_only_ipv6(self) -> None:
         async def main(net: aio.Network) -> tuple[int, int]:
-            made, beside, ends = udp(socket.AF_INET6), udp(), await opened()
+            made = udp(socket.AF_INET6)
+            beside = udp()
+            ends = await opened()
             made.setsockopt(socket.IPPROTO_IPV6, socket.IPV6_V6ONLY, 1)
             made.bind(("::", 7))
             beside.bind(("", 7))

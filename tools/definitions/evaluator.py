@@ -170,7 +170,8 @@ class Compiler:
         if isinstance(expression, syntax.Name):
             return self.name(expression.text, scope)
         if isinstance(expression, syntax.Field):
-            inner, name = self.code(expression.record, scope), expression.name
+            inner = self.code(expression.record, scope)
+            name = expression.name
             return lambda variables: inner(variables)[name]  # type: ignore[index]
         if isinstance(expression, syntax.Infix):
             return self.infix(expression, scope)

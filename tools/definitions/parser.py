@@ -76,7 +76,8 @@ class Parser:
         return syntax.Lambda(tuple(names), self.expression())
 
     def elim(self) -> syntax.Elim:
-        value, cases = self.atom(), list[tuple[syntax.Pattern, syntax.Expression]]()
+        value = self.atom()
+        cases = list[tuple[syntax.Pattern, syntax.Expression]]()
         self.take("[")
         while not cases or self.take_if("|"):
             pattern = self.pattern()
@@ -117,7 +118,8 @@ class Parser:
         return found
 
     def record(self) -> syntax.Record:
-        base, fields = None if self.next.text == "{" else self.atom(), []
+        base = None if self.next.text == "{" else self.atom()
+        fields = []
         self.take("{")
         while not self.take_if("}"):
             name = self.take()

@@ -150,7 +150,8 @@ def main(tally: Tally, program: str, *words: str) -> None:
     parser.add_argument("--seed")
     parser.add_argument("count", type=int)
     asked = parser.parse_args(words)
-    seed, program = seeds.chosen(asked.seed, *READERS), str(Path(program).resolve())
+    seed = seeds.chosen(asked.seed, *READERS)
+    program = str(Path(program).resolve())
     rng = random.Random(seed)
     files = [random_file(rng) for _ in range(asked.count)]
     lines = [random_line(rng).replace("\n", " ") for _ in range(asked.count)]

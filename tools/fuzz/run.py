@@ -106,7 +106,8 @@ def main(tally: Tally, *words: str) -> None:
     parser.add_argument("count", type=int)
     parser.add_argument("names", nargs="*", choices=[*TARGETS, []], metavar="NAME")
     asked = parser.parse_args(words)
-    folder, seed = TOP / "built" / "fuzz", seeds.chosen(asked.seed, *seeds.HOSTS)
+    folder = TOP / "built" / "fuzz"
+    seed = seeds.chosen(asked.seed, *seeds.HOSTS)
     folder.mkdir(parents=True, exist_ok=True)
     for name in asked.names or TARGETS:
         tally.note(name, faults(name, asked.count, seed, folder))

@@ -57,7 +57,8 @@ def line_of(rng: Random, call: Call) -> str:
     if isinstance(call, Configure):
         return f"f {spell(rng, call.command)}"
     if isinstance(call, Submit):
-        packet, is_queue = call.packet, int(call.target.kind == "queue")
+        packet = call.packet
+        is_queue = int(call.target.kind == "queue")
         return " ".join(map(str, ("p", call.moment, is_queue, call.target.number, *packet.tuple, packet.len, packet.word)))
     return "s" if isinstance(call, Show) else f"{'a' if isinstance(call, Advance) else 'c'} {call.moment}"
 

@@ -18,7 +18,8 @@ from tally import TOP, Ran, Tally, judge, lacks, ran
 
 from hingetulip_words.link import Place, WordError, read_words
 
-RUST, DEBIAN = TOP / "rust", Path("/usr/share/cargo/registry")
+RUST = TOP / "rust"
+DEBIAN = Path("/usr/share/cargo/registry")
 SOURCE = f'[source.crates-io]\nreplace-with = "debian"\n[source.debian]\ndirectory = "{DEBIAN}"\n'
 VERSION = (TOP / "VERSION").read_text().strip()
 MANIFEST = '[package]\nname = "user"\nversion = "0.1.0"\nedition = "2021"\n\n[dependencies]\nhingetulip = {{ path = "{}" }}\n'

@@ -109,7 +109,7 @@ class Kills:
             if case.repeats and not whole[name].startswith(self.content(name))
         ]
         history = self.content(case.history)
-        return found + [self.audit(mended(history))] * (history.count(b"\nc,") > 1)
+        return found + ([self.audit(mended(history))] if history.count(b"\nc,") > 1 else [])
 
     def try_each(self, case: Case, tally: Tally) -> None:
         """Each write in turn, until one isn't there."""

@@ -111,7 +111,8 @@ def example(tally: Tally, program: str, folder: Path) -> None:
                 client.sendto(b"%d" % number, ("127.0.0.1", port))
                 server.sendto(*server.recvfrom(9))
                 came = client.recv(9)
-                took += [time.monotonic() - begun] * (came == b"%d" % number)
+                if came == b"%d" % number:
+                    took.append(time.monotonic() - begun)
                 while took == []:  # one that was late
                     server.sendto(*server.recvfrom(9))
                     client.recv(9)
@@ -228,7 +229,8 @@ def lines_in_python(tally: Tally, program: str, folder: Path) -> None:
         for line, wanted in [*LINES, (b"pipe 1 config\npipe 2 config", "more than one line")]
         if b"\xff" not in line
     ]
-    env, text = {**os.environ, "DUMMYNET": program}, repr([line for line, _ in lines])
+    env = {**os.environ, "DUMMYNET": program}
+    text = repr([line for line, _ in lines])
     done = ran(sys.executable, "-c", IN_PYTHON, cwd=LIVE, env=env, input=text, is_apart=True, timeout=120)
     tally.equal("the session in Python at its end", (0, "", len(lines)), (done.returncode, done.stderr, done.stdout.count("\n")))
     for (line, wanted), got in zip(lines, done.stdout.splitlines()):

@@ -132,7 +132,7 @@ def pages(tally: Tally, place: Path, folder: Path) -> None:
         for line in found:
             wanted = next((status for begin, status in STATUSES.items() if line.startswith(begin)), 0)
             done(tally, f"{page}: {line}", "sh", "-c", line, cwd=folder, wanted=wanted, PATH=f"{place}/bin:{os.environ['PATH']}")
-    for left in sorted(it.name + "/" * it.is_dir() for it in folder.iterdir() if not it.is_symlink()):
+    for left in sorted(it.name + ("/" if it.is_dir() else "") for it in folder.iterdir() if not it.is_symlink()):
         tally.note(
             f"git ignores {left}",
             "" if run("git", "check-ignore", "-q", left).returncode == 0 else "in a clone it would be a new file",
@@ -300,7 +300,7 @@ def in_prefix(tally: Tally, copy: Path, place: Path) -> None:
         with open(prefix / "share" / "hingetulip" / "installed", "a") as noted:
             for path in older:
                 path.write_text(""), print(path.relative_to(prefix), file=noted)
-        done(tally, f"./install {part} over an older version", copy / "install", *[part] * bool(part), prefix)
+        done(tally, f"./install {part} over an older version", copy / "install", *([part] if part else []), prefix)
         stay = {"--all": [], "": older[1:], "--lib": older[:1]}[part]
         tally.equal(f"what ./install {part} leaves of it", stay, [path for path in older if path.exists()])
     done(tally, "./install --all once more", copy / "install", "--all", prefix)

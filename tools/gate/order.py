@@ -63,7 +63,8 @@ def main(tally: Tally) -> None:
     subprocess.run(["gcc", *flags, "-o", made, SOURCE, library()], check=True)
     changes = rounds = 0
     while rounds < MOST_ROUNDS and changes < LEAST_CHANGES:
-        changes, rounds = changes + sum(look(tally, made, threads) for threads in THREADS), rounds + 1
+        changes = changes + sum(look(tally, made, threads) for threads in THREADS)
+        rounds = rounds + 1
     tally.note("all threads", "" if changes >= LEAST_CHANGES else f"the caller changes {changes} times, so little is shown")
 
 

@@ -40,7 +40,8 @@ def draw(block: str, place: Path) -> Path:
 
 def difference(drawn: Path, kept: Path) -> str:
     """Returns the difference of a picture, or an empty text."""
-    one, other = drawn.read_bytes(), kept.read_bytes() if kept.exists() else b""
+    one = drawn.read_bytes()
+    other = kept.read_bytes() if kept.exists() else b""
     is_same = VERSION.findall(one) == VERSION.findall(other)
     part = 0.0 if one == other else 1.0
     if part and other:

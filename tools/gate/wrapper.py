@@ -44,7 +44,9 @@ class Copy:
     """A copy of the scripts, with the sources of the program and of one test crate."""
 
     def __init__(self, place: str) -> None:
-        self.top, self.tools, self.plain = Path(place) / "repo", Path(place) / "bin", Path(place) / "python"
+        self.top = Path(place) / "repo"
+        self.tools = Path(place) / "bin"
+        self.plain = Path(place) / "python"
         self.calls, self.temporary = Path(place) / "calls", Path(place) / "tmp"
         self.temporary.mkdir()
         for file in SCRIPTS:
@@ -73,7 +75,7 @@ class Copy:
         plain = [folder for folder in path if not (Path(folder) / "rt").exists()]
         env = {
             **os.environ,
-            "PATH": ":".join([str(self.tools)] * has_rt + [str(self.plain), *plain]),
+            "PATH": ":".join(([str(self.tools)] if has_rt else []) + [str(self.plain), *plain]),
             "CALLS": str(self.calls),
             "FAILS": fails,
             "TMPDIR": str(self.temporary),

@@ -75,7 +75,8 @@ def read_table(text: str) -> List[Row]:
         function = ""
         for name in re.findall(r"`(\w+)`", cells[2]):
             if name.startswith(("laws_of_", "each_call_")):
-                function, clauses = name, clauses + ([(name, "")] if name.startswith("each_call_") else [])
+                function = name
+                clauses = clauses + ([(name, "")] if name.startswith("each_call_") else [])
             else:
                 clauses.append((function, name))
         rows.append(Row(re.findall(r"`(\w+)`", cells[1]), clauses))

@@ -79,7 +79,8 @@ def main() -> int:
     before, begin, _ = NOTICE.read_text(encoding="utf-8").partition(BEGIN)
     wanted = f"{before.rstrip()}\n\n{text()}"
     if sys.argv[1:] == ["--check"]:
-        same, count = NOTICE.read_text(encoding="utf-8") == wanted, len(shipped(toolchain()))
+        same = NOTICE.read_text(encoding="utf-8") == wanted
+        count = len(shipped(toolchain()))
         print(
             f"{count} passed, 0 failed"
             if same

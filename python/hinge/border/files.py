@@ -157,7 +157,8 @@ def lines_in(
 ) -> Iterator[str]:
     """Yields the lines of a UTF-8 text without their line ends, one by one, so that discarded lines use no memory. Fault: as
     `read_text` says, a line is too long, or too many of them are neither blank nor a comment."""
-    budget, saying = Budget(lines or 0, "lines"), Budget(said or 0, "lines that say something")
+    budget = Budget(lines or 0, "lines")
+    saying = Budget(said or 0, "lines that say something")
     with untrusted(name), opened(name, MOST_TEXT) as file:
         try:
             for line in lines_of(io.TextIOWrapper(file, "utf-8-sig", errors), longest):

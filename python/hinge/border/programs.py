@@ -86,7 +86,7 @@ def end_of(words: Sequence[str], status: int, statuses: Iterable[int], complaint
     """Returns a program's message. Fault: a signal ended the program, or its status differs from these."""
     text = complaints.decode("utf-8", "replace").strip()
     if status not in statuses:
-        raise Fault(f"{name_of(words)} {how_ended(status)}" + f": {' '.join(text.split())[:MOST_TOLD]}" * bool(text), FILES)
+        raise Fault(f"{name_of(words)} {how_ended(status)}" + (f": {' '.join(text.split())[:MOST_TOLD]}" if text else ""), FILES)
     return text
 
 

@@ -100,7 +100,8 @@ class Folder:
 
         place = str(within or temporary_place())
         remove_left(place)
-        self.path, self.lock = Path(tempfile.mkdtemp(prefix=PREFIX, dir=place)), -1
+        self.path = Path(tempfile.mkdtemp(prefix=PREFIX, dir=place))
+        self.lock = -1
         try:
             self.lock = marked(self.path)
         except OSError:

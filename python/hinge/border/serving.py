@@ -131,7 +131,8 @@ class Server:
     def __post_init__(self) -> None:
         path = self.path
         self.listening = socket.socket(socket.AF_UNIX, socket.SOCK_STREAM | socket.SOCK_NONBLOCK)
-        self.spare, self.waiting = held("/"), threading.Semaphore(0)
+        self.spare = held("/")
+        self.waiting = threading.Semaphore(0)
         self.woken, self.waking = socket.socketpair()
         for one in (self.woken, self.waking):
             one.setblocking(False)

@@ -37,7 +37,9 @@ def arrivals(replay: Replay, frames: Integers) -> list[tuple[int, int]]:
 
     A frame that was split into packets arrives with its last packet, or never if a packet doesn't leave."""
     count = int(frames.max()) + 1 if len(frames) else 0
-    last, rows, departures = np.zeros(count, np.int64), np.bincount(frames, minlength=count), np.zeros(count, np.int64)
+    last = np.zeros(count, np.int64)
+    rows = np.bincount(frames, minlength=count)
+    departures = np.zeros(count, np.int64)
     np.maximum.at(last, frames[replay.is_out], replay.due[replay.is_out])
     np.add.at(departures, frames[replay.is_out], 1)
     whole = np.flatnonzero((rows > 0) & (departures == rows))

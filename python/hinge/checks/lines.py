@@ -167,7 +167,7 @@ class LineCheck:
         """Returns the error and the advice for a line, from the program's text `word W: X`."""
         line = " ".join(words)
         whole = corrected(line)
-        return explained(line, text) + f"; in full: {whole}" * (whole is not None and whole != line)
+        return explained(line, text) + (f"; in full: {whole}" if whole is not None and whole != line else "")
 
     def refused(self, verdict: Verdict) -> str:
         """Returns why a well-written command has no effect."""
@@ -187,7 +187,7 @@ class LineCheck:
         if key in self.last and "config" in words[:3] and "config" in self.last[key][1][:3]:
             line, earlier = self.last[key]
             losses = [word for word in earlier[3:] if word in OPTIONS_OF[words[0]] and word not in words[3:]]
-            also = f": {', '.join(losses)} of line {line} no longer hold{'s' * (len(losses) == 1)}" if losses else ""
+            also = f": {', '.join(losses)} of line {line} no longer hold{'s' if len(losses) == 1 else ''}" if losses else ""
             self.found.warn(where, f"a second line for {key}, and each line is its whole configuration{also}")
         if option := twice(words):
             self.found.warn(where, f"{option} stands twice; the last one counts")
@@ -202,7 +202,7 @@ def unlikely(name: str, word: str) -> str | None:
     """Returns a warning for a legal but unlikely value."""
     if name == "bw" and re.fullmatch(r"[1-9]\d{0,3}", word):
         return f"bw {word} is {word} bit/s; write {word}Mbit/s or {word}Kbit/s if that is meant"
-    if name == "plr" and Fraction(word + "0" * word.endswith(".")) == 1:
+    if name == "plr" and Fraction(word + ("0" if word.endswith(".") else "")) == 1:
         return f"plr {word} loses every packet; 1 % is 0.01"
     if name == "delay" and (ms := int(re.sub(r"\D", "", word) or 0)) > LONG_DELAY_MS:
         return f"delay {word} is {ms / 1000:g} s; delays are in ms"

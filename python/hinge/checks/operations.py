@@ -51,7 +51,7 @@ class Operation:
 
     def told(self) -> str:
         """Returns the operation as text."""
-        words = "".join(f" {name} {text[:SHOWN]}" + " .." * (len(text) > SHOWN) for name, text in self.words.items())
+        words = "".join(f" {name} {text[:SHOWN]}" + (" .." if len(text) > SHOWN else "") for name, text in self.words.items())
         return f"client {self.client}: {self.op}{words}, from {self.begin}" + (
             f" to {self.end}" if self.is_over else ", never returned"
         )

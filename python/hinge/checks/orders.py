@@ -103,11 +103,13 @@ def least(operations: list[Operation], kind: type[Model], last: Operation) -> li
     core, others = operations, list[Operation]()
     early, late = ([one for one in operations if (one.begin > last.end) == is_late] for is_late in (False, True))
     if is_impossible(early + [one.anywhen() for one in late], kind):
-        core, others = early, [one.anywhen() for one in late]
+        core = early
+        others = [one.anywhen() for one in late]
     size = len(core)
     while size:
         for place in range((len(core) - 1) // size * size, -1, -size):
-            without, loose = core[:place] + core[place + size :], [one.anywhen() for one in core[place : place + size]]
+            without = core[:place] + core[place + size :]
+            loose = [one.anywhen() for one in core[place : place + size]]
             if is_impossible(without + others + loose, kind):
                 core, others = without, others + loose
         size //= 2

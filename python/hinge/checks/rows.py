@@ -148,14 +148,18 @@ class RowCheck:
         lines = other.text.encode().splitlines()
         count = 1 + (other.line - self.line + len(lines)) * lines[0][:1].isalpha()
         rest = re.split(rb"\r\n?|\n", b"\n" + self.data, count)[count:]
-        self.data, self.line = b"\n".join([HEAD, *rest]), self.line + count - 2
+        self.data = b"\n".join([HEAD, *rest])
+        self.line = self.line + count - 2
 
     def rows(self, begin: int = 1) -> Iterator[Row]:
         return islice(rows_of(io.BytesIO(self.data), self.line, "utf-8"), begin, None)
 
     def judge(self) -> bool:
         """Returns whether the program accepts all rows; reports the others."""
-        text, rows, ahead, reports = self.data, self.rows(), list[Row](), 0
+        text = self.data
+        rows = self.rows()
+        ahead = list[Row]()
+        reports = 0
         while reports < MOST_FAULTS:
             status, fault = verdict(text)
             if place := re.fullmatch(r"packet row (\d+), field (\d+): bad", fault):

@@ -131,10 +131,13 @@ def what_is_carried(order: Order, front: socket.socket, server: tuple[str, int])
 
 def main() -> None:
     arguments = vars(options().parse_args())
-    listen, server, links = arguments.pop("listen"), arguments.pop("server"), arguments.pop("links")
+    listen = arguments.pop("listen")
+    server = arguments.pop("server")
+    links = arguments.pop("links")
     mask = signal.pthread_sigmask(signal.SIG_BLOCK, ())
     program()
-    lines, files = [*arguments.pop("line"), *links_in_order(links)], [word for word in links if " " not in word]
+    lines = [*arguments.pop("line"), *links_in_order(links)]
+    files = [word for word in links if " " not in word]
     order = order_of(LiveOptions(**arguments, line=lines, more_files=files), LONGEST, mask)
     if any(extra.corrupt for extra, _ in order.made.extras.values()):
         raise Wrong("corrupt: each datagram is sent with a checksum of its own, which no flipped bit breaks; write loss 1%")

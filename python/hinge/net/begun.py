@@ -75,7 +75,7 @@ def show_net(net: Description) -> None:
         show(
             f"{name} switch"
             if host.is_switch
-            else f"{name} {' '.join(ends.own[name])}{' router' * host.forwards}{' main' * (name == net.main)}"
+            else f"{name} {' '.join(ends.own[name])}{' router' * host.forwards}{' main' if name == net.main else ''}"
             f"{f': {host.command}' if host.command else ''}"
         )
     for number, link in enumerate(net.links):
@@ -110,7 +110,7 @@ def run(arguments: NetOptions) -> None:
     refuse_idle_seed(is_of_links, draws(net_plan.plan) or bool(net_plan.drawn))
     if arguments.dry_run:
         show_net(net)
-        for line in [*[f"# by seed {seed}"] * bool(net_plan.drawn), *net_plan.drawn]:
+        for line in [*([f"# by seed {seed}"] if net_plan.drawn else []), *net_plan.drawn]:
             show(line)
         return
     arguments = with_files(arguments)

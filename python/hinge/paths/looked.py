@@ -104,7 +104,8 @@ def look_record(matching: Matched, line: Timeline, history: str, seed: str | Non
 
 def title_of(view: Looked) -> str:
     """Returns each link's words like in a net's file, followed by a slash and the way back if that differs."""
-    topology, links = view.found.passages.topology, dict[tuple[str, str], list[str]]()
+    topology = view.found.passages.topology
+    links = dict[tuple[str, str], list[str]]()
     for pipe, words in sorted(view.words.items()):
         ends = [topology.hosts[host] for host in topology.pipes.get(pipe, ())]
         if len(ends) == 2:

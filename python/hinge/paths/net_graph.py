@@ -28,7 +28,8 @@ def places_of(count: int, links: list[tuple[int, int]]) -> Reals:
     """Returns the hosts' places: hosts repel each other and links attract, like in Fruchterman and Reingold (1991)."""
     turn = 2 * np.pi * np.arange(count) / max(count, 1)
     places = np.column_stack((np.cos(turn), np.sin(turn)))
-    ideal, pulls = np.sqrt(4 / max(count, 1)), np.zeros((count, count))
+    ideal = np.sqrt(4 / max(count, 1))
+    pulls = np.zeros((count, count))
     for one, other in links:
         pulls[one, other] = pulls[other, one] = 1
     for part in range(ROUNDS):
@@ -78,7 +79,7 @@ class NetGraph:
         words = dict.fromkeys(as_link(self.words.get(pipe, "")) for pipe in pipes)
         drops = sum(way.lost + way.full for pipe in pipes if (way := self.figures.get(pipe)))
         rates = " and ".join(f"{rate:.3g}" for rate in self.rates(pipes))
-        return "\n".join([*filter(None, words), f"{rates} Mbit/s" + f", {drops:,} dropped" * bool(drops)])
+        return "\n".join([*filter(None, words), f"{rates} Mbit/s" + (f", {drops:,} dropped" if drops else "")])
 
     def edge(self, ends: tuple[str, str], most: float, has_label: bool) -> Edge:
         pipes = self.links[ends]
@@ -92,7 +93,8 @@ class NetGraph:
         """Returns the panel; None for a net with too many hosts, or with a single link."""
         if not 2 < len(self.hosts) <= MOST_HOSTS:
             return None
-        most, has_labels = max(sum(self.rates(pipes)) for pipes in self.links.values()), len(self.links) <= MOST_WORDS
+        most = max(sum(self.rates(pipes)) for pipes in self.links.values())
+        has_labels = len(self.links) <= MOST_WORDS
         edges = [self.edge(ends, most, has_labels) for ends in self.links]
         places = places_of(len(self.hosts), [(edge.begin, edge.end) for edge in edges])
         nodes = [Node(name, x, y, name in self.switches) for name, (x, y) in zip(self.hosts, places.tolist())]

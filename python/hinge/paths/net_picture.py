@@ -28,7 +28,10 @@ class NetPicture:
 
     def __init__(self, view: Looked, step_ms: Optional[int]) -> None:
         result, line = view.found, view.timeline
-        self.looked, self.found, self.passages, self.timeline = view, result, result.passages, line
+        self.looked = view
+        self.found = result
+        self.passages = result.passages
+        self.timeline = line
         busiest = max((way.packets for way in ways(result)), default=1)
         longer = min(rounded_up(PACKETS_A_STEP * line.span // busiest), rounded_down(line.span // FEWEST_STEPS))
         self.step = step_ms * NS_PER_MS if step_ms else max(round_step(line.span), longer)
@@ -49,8 +52,8 @@ class NetPicture:
                 above += bool(len(rates))
                 continue
             items.append(Line(way.name, moments, rates, color, number, width=1, dash=DOTTED, is_behind=True))
-        notes = [f"{self.left_out} other ways, which carried fewer packets, aren't drawn"] * bool(self.left_out)
-        notes += ["dotted: a way's capacity"] * bool(items) + [f"{above} capacities are above this panel"] * bool(above)
+        notes = [f"{self.left_out} other ways, which carried fewer packets, aren't drawn"] if self.left_out else []
+        notes += (["dotted: a way's capacity"] if items else []) + ([f"{above} capacities are above this panel"] if above else [])
         items += [
             Line(way.name, self.edges, np.append(rates, rates[-1]), color, number)
             for number, ((way, color), rates) in enumerate(zip(self.ways, load))
@@ -107,7 +110,8 @@ class NetPicture:
         path = next(iter(self.over_links()), None)
         if path is None:
             return None
-        hosts, of = hosts_of(self.found, path), np.minimum(path.sent // self.step, self.count - 1)
+        hosts = hosts_of(self.found, path)
+        of = np.minimum(path.sent // self.step, self.count - 1)
         counts = np.bincount(of, minlength=self.count)
         colors = {way.pipe: color for way, color in self.ways}
         items: list[Item] = []
@@ -126,8 +130,11 @@ class NetPicture:
         for kind, dash in (("late", SOLID), ("unread", DOTTED)):
             columns = [way[kind] for way in self.looked.lateness.values()]
             if columns:
-                moments, most = columns[0][0], np.max([values for _, values in columns], axis=0)
-                x, y, name = np.append(0, moments), np.append(most, most[-1:]), f"{kind}, at most {most.max(initial=0):,.4g} ms"
+                moments = columns[0][0]
+                most = np.max([values for _, values in columns], axis=0)
+                x = np.append(0, moments)
+                y = np.append(most, most[-1:])
+                name = f"{kind}, at most {most.max(initial=0):,.4g} ms"
                 items.append(Line(name, x, y, PIPES[0][0], width=1, dash=dash))
         return late_panel("The links' lateness, the most of each second", items)
 

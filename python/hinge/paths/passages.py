@@ -217,7 +217,8 @@ class Reader:
         get = history.rows.columns.__getitem__
         refusals = [int(one.split(",")[2]) for one in remarks_of_kinds(history.remarks, [b"refused"])]
         is_handed = (get("event") == OUT) & ~np.isin(get("packet"), np.array(refusals, np.int64)) & (get("handed") >= 0)
-        submitted, handed = self.records + get("submitted"), np.where(is_handed, self.records + get("handed"), -1)
+        submitted = self.records + get("submitted")
+        handed = np.where(is_handed, self.records + get("handed"), -1)
         flow = [column[get("five_tuple")] for column in history.rows.tuples.columns()]
         is_own = (flow[2] == OUTAGE_PROTOCOL) & (get("content") == 0)
         pipe = self.pipes_of(path, history.rows.targets)[get("target")]
@@ -234,7 +235,8 @@ class Reader:
         """Returns the contents with which packets left: another one behind a flipped bit."""
         remarks = [one.split(",") for one in remarks_of_kinds(history.remarks, [b"corrupt"])]
         flips = {int(number): int(text, 16) for _, _, number, _, _, text in remarks}
-        left, packet = content.copy(), history.rows.columns["packet"]
+        left = content.copy()
+        packet = history.rows.columns["packet"]
         rows = np.flatnonzero((history.rows.columns["event"] == OUT) & np.isin(packet, np.array([*flips], np.int64)))
         left[rows] = np.array([flips[number] for number in packet[rows].tolist()], np.uint64).astype(np.int64)
         return left
@@ -252,7 +254,9 @@ class Reader:
         pipes = sorted(self.topology.pipes)
         ends = np.array([self.topology.pipes[number] for number in pipes], np.int64).reshape(-1, 2)
         place = np.searchsorted(np.array(pipes, np.int64), pipe)
-        flow, start, end = np.stack(columns[:5]), ends[place, 0], ends[place, 1]
+        flow = np.stack(columns[:5])
+        start = ends[place, 0]
+        end = ends[place, 1]
         return Passages(self.topology, flow, length, content, left, last, flooded, pipe, start, end, *columns[11:])
 
 

@@ -90,7 +90,8 @@ def ways(matching: Matched) -> list[WayFigures]:
         mean, p99 = (int(delay.mean()), int(np.quantile(delay, 0.99, method="higher"))) if len(delay) else (None, None)
         if own.any():
             packets, losses, full = (int((own & which).sum()) for which in (own, passages.event == LOST, passages.event == FULL))
-            span, ends = int(np.ptp(passages.due[out])) if len(delay) else 0, (topology.hosts[start], topology.hosts[end])
+            span = int(np.ptp(passages.due[out])) if len(delay) else 0
+            ends = (topology.hosts[start], topology.hosts[end])
             items.append(WayFigures(pipe, ends, packets, losses, full, int(passages.length[out].sum()), span, mean, p99))
     return items
 
@@ -111,7 +112,8 @@ def of_paths(matching: Matched, top: int) -> Iterator[str]:
     """Yields a line for each path over several links."""
     text = [path for path in paths(matching) if len(path.pipes) > 1]
     for path in text[:top]:
-        in_links, in_hosts = path.links.mean(axis=0), path.hosts.mean(axis=0)
+        in_links = path.links.mean(axis=0)
+        in_hosts = path.hosts.mean(axis=0)
         links, hosts = (" + ".join(f"{time / MS:.3f}" for time in times) for times in (in_links, in_hosts))
         head = (
             f"{' - '.join(hosts_of(matching, path))}: {len(path.sent):,} packets, {(in_links.sum() + in_hosts.sum()) / MS:.3f} ms"
@@ -140,7 +142,8 @@ def of_faults(matching: Matched, files: list[str]) -> Iterator[str]:
 
 def summary(matching: Matched) -> str:
     """Returns a line with the counts of all packets; those of the last four kinds only where there are some."""
-    handed_on, arrived = int((matching.before != NONE).sum()), int(matching.is_there.sum()) - matching.expired
+    handed_on = int((matching.before != NONE).sum())
+    arrived = int(matching.is_there.sum()) - matching.expired
     counts = {
         "with an expired time to live": matching.expired,
         "back at their senders, as while routes change": matching.back,

@@ -82,7 +82,8 @@ def timeline(matching: Matched, items: list[tuple[int, str]]) -> Timeline:
     changes = [change for moment, text in items if (change := read_change(moment, text))]
     span = max([int(passages.came.max(initial=0)), int(passages.due.max(initial=0)), *(change.moment for change in changes)])
     before: dict[int, WayChange] = {}
-    new, cuts = list[WayChange](), dict[int, list[tuple[int, int]]]()
+    new = list[WayChange]()
+    cuts = dict[int, list[tuple[int, int]]]()
     for change in changes:
         last = before.get(change.pipe)
         if last and last.is_cut:

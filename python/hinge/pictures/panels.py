@@ -138,7 +138,8 @@ class Panels:
         """Returns the proved bound on each pipe's delay: a line, or a note if it is far above the delays."""
         lines, notes = list[Item](), list[str]()
         for one in self.found.bounds:
-            limit, most = one.bound.due_ns / NS_PER_MS, (one.delay_ns or 0) / NS_PER_MS
+            limit = one.bound.due_ns / NS_PER_MS
+            most = (one.delay_ns or 0) / NS_PER_MS
             text = f"bound on the delay of {one.name}: {limit:,.6g} ms"
             if limit <= MOST_ABOVE * most:
                 ends = np.array([0, self.found.steps.span]) / NS_PER_S
@@ -159,7 +160,8 @@ class Panels:
         """Returns the panel with the packets waiting for each pipe or queue, with its limit."""
         items, notes = list[Item](), list[str]()
         for name, (moments, lengths) in self.found.waiting.items():
-            places, most = spread(np.arange(len(moments)), MOST_COUNTS), int(lengths.max(initial=0))
+            places = spread(np.arange(len(moments)), MOST_COUNTS)
+            most = int(lengths.max(initial=0))
             if not most:
                 continue
             color, _ = self.pipes[name]
@@ -168,7 +170,8 @@ class Panels:
             if limit is None:
                 continue
             if limit.numbers is not None and np.nanmax(limit.numbers) <= MOST_ABOVE * most:
-                text, numbers = f"limit of {name}: {limit.told}", limit.numbers.astype(float)
+                text = f"limit of {name}: {limit.told}"
+                numbers = limit.numbers.astype(float)
                 items.append(Line(text, limit.moments, numbers, color, width=1.2, dash=DASHED, is_behind=True))
             else:
                 notes.append(f"limit of {name}: {limit.told}" + (", above this panel" if limit.numbers is not None else ""))
@@ -194,7 +197,8 @@ class Panels:
 
     def lateness(self) -> Optional[Panel]:
         """Returns the panel with a live host's lateness and unread packets in each second: delays that no link caused."""
-        dashes, items = {"late": SOLID, "unread": DOTTED}, list[Line]()
+        dashes = {"late": SOLID, "unread": DOTTED}
+        items = list[Line]()
         for number, (way, of_way) in enumerate(self.found.lateness.items()):
             for which, (moments, ms) in of_way.items():
                 x, y = np.append(0, moments), np.append(ms, ms[-1:])  # each is of the time up to its moment

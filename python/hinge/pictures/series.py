@@ -148,7 +148,7 @@ def fitting_step(replays: list[Replay], span: int) -> int:
 
 def runs_of(ordered: Integers) -> Integers:
     """Returns the end of each run with equal numbers."""
-    return np.flatnonzero(np.append(ordered[1:] != ordered[:-1], [True] * (len(ordered) > 0)))
+    return np.flatnonzero(np.append(ordered[1:] != ordered[:-1], [True] if len(ordered) > 0 else []))
 
 
 def span_of(replays: list[Replay]) -> int:
@@ -168,7 +168,8 @@ def thinned(places: Integers, replay: Replay, most: int) -> Integers:
     at, took = replay.at[places], replay.took[places]
     stretch = (at - at.min()) // ((int(at.max()) - int(at.min())) // (most // 4) + 1)
     order = np.argsort(stretch, kind="stable")
-    begins, took = np.flatnonzero(np.diff(stretch[order], prepend=-1)), took[order]
+    begins = np.flatnonzero(np.diff(stretch[order], prepend=-1))
+    took = took[order]
     counts = np.diff(np.append(begins, len(order)))
     extremes = np.minimum.reduceat(took, begins), np.maximum.reduceat(took, begins)
     low, high = (np.flatnonzero(took == np.repeat(extreme, counts)) for extreme in extremes)
@@ -258,12 +259,14 @@ def series(
     bounds: Iterable[Bounded] = (),
 ) -> Series:
     steps, changes = Steps(step_ns, span), list(changes)
-    pipes, queues = pipes_of(replay, pipe_names(changes)), group(replay, "target")
+    pipes = pipes_of(replay, pipe_names(changes))
+    queues = group(replay, "target")
     queues = queues.largest(replay.packets.length, MOST_PIPES) if len(queues.names) > MOST_PIPES else queues
     flows = [flow_series(replay, name, places, is_rest, steps) for name, places, is_rest in named_places(groups, pipes)]
     drops = {EVENT_NAMES[cause]: steps.counts(replay.at[replay.event == cause]) for cause in CAUSES}
     waits = {name: waiting(replay, places) for name, places in queues.places()}
-    common, rates = shared(replay, groups, pipes), capacities(changes, span)
+    common = shared(replay, groups, pipes)
+    rates = capacities(changes, span)
     rates_out = {name: carried(replay, places, steps) for name, places in common.items()}
     rates_in = {name: offered(replay, places, steps) for name, places in common.items()}
     if len(rates) > MOST_PIPES:

@@ -51,7 +51,7 @@ def limits(changes: Iterable[tuple[int, str]], span: int) -> dict[str, Limits]:
 def limits_of(points: list[tuple[int, Limit, bool]], span: int) -> Limits:
     last, limit, has_mask = points[-1]
     moments = np.array([*(moment for moment, _, _ in points), max(span, last)]) / NS_PER_S
-    each = ", each flow" * has_mask
+    each = ", each flow" if has_mask else ""
     if any(limit.slots is None for _, limit, _ in points):
         return Limits(moments, None, f"{limit.kbytes} Kbytes{each}" if limit.kbytes else f"{limit.slots:,} packets{each}")
     numbers = np.array([*(limit.slots for _, limit, _ in points), limit.slots])

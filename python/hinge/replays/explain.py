@@ -35,7 +35,8 @@ class Explainer:
         self.replay = self.parts.replay
         self.packets = self.replay.packets
         self.known_turns: dict[tuple[tuple[str, int], Callable[[Setting], int], int], list[int]] = {}
-        self.order, self.is_history = LinkOrder(self.parts), self.parts.configuration.path == self.replay.path
+        self.order = LinkOrder(self.parts)
+        self.is_history = self.parts.configuration.path == self.replay.path
         if (self.replay.at != np.maximum.accumulate(self.packets.moment)).any():
             why = "its rows didn't come in their order, as those of several callers: no queue can be told"
             raise Fault(f"{self.replay.path}: {why}", ROWS)
@@ -79,7 +80,8 @@ class Explainer:
 
     def time_of(self, number: int, value: Callable[[Setting], int]) -> tuple[Optional[int], Optional[int]]:
         """From when to when a pipe or queue had the value of this spell; None where that was from the beginning, or to the end."""
-        spells, turns = self.parts.configuration.spells, self.turns(number, value)
+        spells = self.parts.configuration.spells
+        turns = self.turns(number, value)
         places = self.parts.configuration.by_target[spells[number].target]
         at = bisect_right(turns, bisect_left(places, number))
         begin, ends = turns[at - 1], turns[at : at + 1]
@@ -118,7 +120,8 @@ class Explainer:
     def sent(self, place: int) -> str:
         moment, at = int(self.packets.moment[place]), int(self.replay.at[place])
         late = f" (its own moment is {seconds(moment)}, and a row before it had come later)" if moment < at else ""
-        name, length = self.packets.tuple_name(self.packets.five_tuple[place]), int(self.packets.length[place])
+        name = self.packets.tuple_name(self.packets.five_tuple[place])
+        length = int(self.packets.length[place])
         return f"Row {place + 1} ({name}, {length:,} bytes) was sent to {self.target_name(place)} at {seconds(at)}{late}."
 
     def link_name(self, place: int) -> str:
@@ -138,16 +141,16 @@ class Explainer:
     def delivered(self, place: int) -> str:
         """Waiting, transmission and delay, and their sum."""
         parts = self.parts
-        sending, (delay, behind) = int(parts.transmission[place]), map(int, chain(*parts.delay_and_behind(slice(place, place + 1))))
+        sending = int(parts.transmission[place])
+        (delay, behind) = map(int, chain(*parts.delay_and_behind(slice(place, place + 1))))
         at, start, due = (int(column[place]) for column in (self.replay.at, self.replay.start, self.replay.due))
         wait, took = start - at, due - at
         parts_of_it = f"{ms(took)} = {ms(wait)} waiting + {ms(sending)} transmission + {ms(delay)} delay"
         in_force = self.while_so(int(parts.carrier[place]), delay_of)
-        before = (
-            f"{self.waiting(place, wait)} {self.sending(place)} The link's delay was {ms(delay)}{', ' * bool(in_force)}{in_force}."
-        )
+        before = f"{self.waiting(place, wait)} {self.sending(place)} The link's delay was {ms(delay)}{', ' if in_force else ''}{in_force}."
         if behind:
-            before, parts_of_it = f"{before} {self.stayed_behind(place, behind)}", f"{parts_of_it} + {ms(behind)} behind another"
+            before = f"{before} {self.stayed_behind(place, behind)}"
+            parts_of_it = f"{parts_of_it} + {ms(behind)} behind another"
         further = self.order.further.get(place) if self.is_history else None
         goes_on = "" if further is None else f" It went on as row {further + 1}, for its jitter or a delay of its own."
         flip = self.replay.flips.get(int(self.replay.packet[place]))
@@ -170,7 +173,7 @@ class Explainer:
         rounding = "" if length * BITS_NS % bandwidth == 0 else ", rounded up to whole ns"
         in_force = self.while_so(carrier, bandwidth_of)
         alone = " to " in in_force and self.parts.carried[carrier + 1] == 1
-        whose = f", {in_force}{' for this packet alone, as a trace or an outage has it' * bool(alone)}" if in_force else ""
+        whose = f", {in_force}{' for this packet alone, as a trace or an outage has it' if alone else ''}" if in_force else ""
         return f"Its transmission took {ms(took)} ({length:,} bytes at {bandwidth:,} bit/s{rounding}{whose})."
 
     def waiting(self, place: int, delay: int) -> str:
@@ -183,7 +186,10 @@ class Explainer:
 
     def waited_for(self, place: int, wait: WaitedFor) -> list[str]:
         """Returns a line with the cost in time for each flow ahead of a packet; a last line sums up small flows among many."""
-        lines, places, costs, own = list[str](), wait.places, wait.costs, int(self.replay.flow[place])
+        lines = list[str]()
+        places = wait.places
+        costs = wait.costs
+        own = int(self.replay.flow[place])
         if wait.first_was_sending:
             first = int(places[0])
             whose = f" of {self.flow_name(first)}" if self.parts.is_shared[place] else ""
@@ -236,11 +242,12 @@ class Explainer:
             return f"It was lost by a model of losses or a list of them, since the word that it was given is {word}."
         rate = f"{own.loss:,}, which is the rate of {own.loss / LOSS_PARTS:.6g} in parts of 2^31"
         bits = f"the low 31 bits of its random word {word} are {word & LOW_31_BITS:,}, less than {rate}"
-        return f"It was lost by the loss rate of {self.target_name(place)}{', ' * bool(in_force)}{in_force}: {bits}."
+        return f"It was lost by the loss rate of {self.target_name(place)}{', ' if in_force else ''}{in_force}: {bits}."
 
     def full(self, place: int) -> str:
         """Describes the full queue: its packets, and the moment at which there was room again."""
-        backlog, limit = self.order.backlog(place), self.own(place).limit
+        backlog = self.order.backlog(place)
+        limit = self.own(place).limit
         bytes_up_to = np.cumsum(self.packets.length[backlog])
         total = int(bytes_up_to[-1]) if len(backlog) else 0
         if limit.slots is not None:
@@ -253,7 +260,7 @@ class Explainer:
         if too_many < 0:
             raise self.parts.another(f"row {place + 1} would have found room")
         why = f"The queue of its flow {self.replay.flow[place]} was full, so it was dropped"
-        unsure = "at most " * bool(self.parts.is_shared[place] and (self.replay.event[backlog] == HELD).any())
+        unsure = "at most " if self.parts.is_shared[place] and (self.replay.event[backlog] == HELD).any() else ""
         backlog_text = (
             f"{unsure}{packets(len(backlog))} waited there ({rows((backlog + 1).tolist())}), {total:,} bytes in all, {options}"
         )
@@ -277,23 +284,20 @@ class Explainer:
 
     def held(self, place: int) -> str:
         """Accepted, and on its way at the end, or discarded by a delete."""
-        queue, connection = (
-            self.order.accepted_of(int(self.replay.flow[place])),
-            f"It was accepted as packet {self.replay.packet[place]}",
-        )
+        queue = self.order.accepted_of(int(self.replay.flow[place]))
+        connection = f"It was accepted as packet {self.replay.packet[place]}"
         number = int(np.searchsorted(queue.places, place))
-        start, ended = (
-            int(queue.starts[number]),
-            "the history ends" if self.is_history else f"the replay ended at {seconds(LAST_MOMENT)} (2^62 ns)",
-        )
+        start = int(queue.starts[number])
+        ended = "the history ends" if self.is_history else f"the replay ended at {seconds(LAST_MOMENT)} (2^62 ns)"
         if queue.gone[number] != GREATEST:
-            unsure = ", unless its transmission had begun" * bool(self.parts.is_shared[place])
+            unsure = ", unless its transmission had begun" if self.parts.is_shared[place] else ""
             spell = next(one for one in self.parts.configuration.spells if one.record == queue.gone[number])
             return f"{connection}, and waited when `{spell.target[0]} delete {spell.target[1]}` discarded it at {seconds(spell.moment)}{unsure}."
         if start == GREATEST:
             return f"{connection}, and had not left {self.link_name(place)} when {ended}."
         one = self.order.times_of_held(place, start)
-        wait, before = start - int(self.replay.at[place]), ", if no packet before it is later" * self.is_history
+        wait = start - int(self.replay.at[place])
+        before = ", if no packet before it is later" if self.is_history else ""
         due = start + one.transmission + one.delay
         took = f"{ms(due - int(self.replay.at[place]))} = {ms(wait)} waiting + {ms(one.transmission)} transmission + {ms(one.delay)} delay"
-        return f"{connection}, and would take {took}. It would leave at {seconds(due)}{before}, and {ended}{' before that' * self.is_history}."
+        return f"{connection}, and would take {took}. It would leave at {seconds(due)}{before}, and {ended}{' before that' if self.is_history else ''}."

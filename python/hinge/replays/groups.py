@@ -51,7 +51,8 @@ class Groups:
         above = np.flatnonzero(sums > least)  # which are few, so that no million of flows is sorted
         part = above[np.argsort(-sums[above], kind="stable")]
         part = there[np.append(part, np.flatnonzero(sums == least)[: most - len(above)])]
-        number, rest = np.full(len(self.names), len(part)), len(there) - len(part)
+        number = np.full(len(self.names), len(part))
+        rest = len(there) - len(part)
         number[part] = np.arange(len(part))
         names = [self.names[i] for i in part]
         return Groups(number[self.of], names + ([f"{rest:,} others"] if rest else []), rest > 0, self.of)

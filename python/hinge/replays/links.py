@@ -134,7 +134,8 @@ class Parts:
     @cached_property
     def carrier(self) -> Integers:
         """The spell of its pipe during each row's transmission; for a row that didn't leave, the spell at its arrival."""
-        replay, found = self.replay, np.full(len(self.own), UNKNOWN, np.int64)
+        replay = self.replay
+        found = np.full(len(self.own), UNKNOWN, np.int64)
         for number, rows in enumerate(places_of(self.pipe, int(self.pipe.max(initial=0)) + 1)):
             if number and len(start := replay.start[rows]):
                 on_coming = self.configuration.places(("pipe", number), replay.submitted[rows], RECORD)
@@ -170,7 +171,8 @@ class Parts:
 
     def delay_and_behind(self, rows: slice) -> tuple[Integers, Integers]:
         """Returns rows' delays, and the ns for which each row stayed behind the previous row on a link with a shortened delay."""
-        replay, delay = self.replay, self.configuration.values(self.carrier[rows], delay_of)
+        replay = self.replay
+        delay = self.configuration.values(self.carrier[rows], delay_of)
         left = replay.due[rows] - replay.start[rows] - self.transmission[rows] - delay
         return delay, np.where(replay.is_out[rows], left, 0)
 

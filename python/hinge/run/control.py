@@ -55,9 +55,15 @@ class Control:
     ) -> None:
         """`obey` carries out words about hosts and reports the links' part, as words with a moment in ns; `status` reports counts;
         `enter` opens a host."""
-        self.plan, self.page, self.obey, self.status, self.enter = plan, page, obey, status, enter
+        self.plan = plan
+        self.page = page
+        self.obey = obey
+        self.status = status
+        self.enter = enter
         self.lines = lines or HostLines()
-        self.until, self.is_wanted = 0.0, lambda: True  # of the order that is obeyed
+        # of the order that is obeyed
+        self.until = 0.0
+        self.is_wanted = lambda: True
         try:
             self.server = Server(path)
         except OSError as error:
@@ -106,7 +112,7 @@ class Control:
         changes = [one for one in new if isinstance(one, Change)]
         if len(changes) < len(new):
             raise Wrong("an outage from now on loses packets: write `outage LENGTH lossy`")
-        for kind in ("change", *["act"] * (words.split()[0] in LINK_WORDS)):
+        for kind in ("change", *(["act"] if words.split()[0] in LINK_WORDS else [])):
             self.lines.ask(f"line remark {kind},{words}", self.until, self.is_wanted)
         return self.followed(changes, moment)
 
@@ -117,7 +123,8 @@ class Control:
         replies = list[ObeyedLine]()
         is_heal = bool(new) and all(one.line.startswith("heal ") for one in new)
         for one in new:
-            kind, cut = one.line.split(" ", 1)[0], " ".join(one.line.split(" ", 3)[1:3])
+            kind = one.line.split(" ", 1)[0]
+            cut = " ".join(one.line.split(" ", 3)[1:3])
             if kind == "cut" and cut in ends:
                 replies += self.cut_for(one.line, ends[cut] - moment)
             elif kind != "open":

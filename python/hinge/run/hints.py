@@ -46,7 +46,7 @@ def lacking(command: Sequence[str]) -> Optional[str]:
     if re.search(r"\bserver\b", " ".join(command)) and not os.path.exists(HOSTS):
         names.append(HOSTS)
         ways.append(f"touch {HOSTS}")
-    return f"there is no {' and no '.join(names)}{': ' * bool(ways)}{'; '.join(ways)}" if names else None
+    return f"there is no {' and no '.join(names)}{': ' if ways else ''}{'; '.join(ways)}" if names else None
 
 
 def runnable(name: str) -> str:

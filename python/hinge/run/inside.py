@@ -45,7 +45,11 @@ class Inside:
         ports: Optional[Ports] = None,
     ) -> None:
         """`network` is an existing network to join, if any."""
-        self.options, self.order, self.outside, self.ports, self.page = options, order, outside, ports, Page()
+        self.options = options
+        self.order = order
+        self.outside = outside
+        self.ports = ports
+        self.page = Page()
         self.processes = Processes(WATCHED if options.command else WATCHED | {signal.SIGINT})
         self.joined = None if network is None else Joined(network, options.mtu, own_users)
         self.rooms = self.joined or Rooms(options.mtu, own_users, ends_of(options.net))
@@ -56,7 +60,8 @@ class Inside:
     def start(self, host: str, words: Sequence[str]) -> int:
         """Starts a host's command; returns its process."""
         is_server = host == HOSTS[1]
-        room, cgroup = self.rooms.server if is_server else self.rooms.client, None if is_simulated() else self.cgroups.of(host)
+        room = self.rooms.server if is_server else self.rooms.client
+        cgroup = None if is_simulated() else self.cgroups.of(host)
         self.started[host] = self.rooms.start(room, words, self.order.mask, cgroup, is_server)
         return self.started[host]
 

@@ -29,7 +29,12 @@ ADVERTISEMENT, OVERRIDE = 136, 0x20000000  # ND_NEIGHBOR_ADVERT, ND_NA_FLAG_OVER
 REJECTS = 0x200  # RTF_REJECT, in /proc/net/ipv6_route
 MAIN_TABLE, BY_BOOT, UNICAST, GATEWAY = 254, 3, 1, 5  # RT_TABLE_MAIN, RTPROT_BOOT, RTN_UNICAST, RTA_GATEWAY
 # RTA_DST, RTA_OIF, RTA_PRIORITY, RTA_PREFSRC, RTA_TABLE, RT_SCOPE_LINK
-DESTINATION, OUT_BY, METRIC, PREFERRED, ROUTE_TABLE, LINK_SCOPE = 1, 4, 6, 7, 15, 253
+DESTINATION = 1
+OUT_BY = 4
+METRIC = 6
+PREFERRED = 7
+ROUTE_TABLE = 15
+LINK_SCOPE = 253
 TUNSETIFF, TUN, TAP, WITH_NOTE = 0x400454CA, 1, 2, 0x5000  # IFF_TUN, IFF_TAP, IFF_NO_PI | IFF_VNET_HDR
 TUNSETOFFLOAD, LEFT_TO_A_CARD = 0x400454D0, 7  # TUN_F_CSUM | TUN_F_TSO4 | TUN_F_TSO6
 TUNSETPERSIST = 0x400454CB
@@ -41,7 +46,10 @@ UNFORWARDED = ("IpInNoRoutes", "IpFragFails", "Ip6InNoRoutes", "Ip6InTooBigError
 LISTENS = (("tcp", "0A"), ("tcp6", "0A"), ("udp", "07"), ("udp6", "07"))  # in /proc/net, and the state there
 QUIET = (("accept_dad", "0"), ("accept_ra", "0"), ("router_solicitations", "0"))  # of IPv6
 # IFLA_AF_SPEC, IFLA_INET_CONF, IFLA_INET6_ADDR_GEN_MODE, IN6_ADDR_GEN_MODE_NONE
-OF_FAMILIES, INET_CONF, ADDRESS_MODE, NO_ADDRESS = 26, 1, 8, 1
+OF_FAMILIES = 26
+INET_CONF = 1
+ADDRESS_MODE = 8
+NO_ADDRESS = 1
 FORWARDING, PROXY_ARP = 1, 3  # IPV4_DEVCONF_FORWARDING, IPV4_DEVCONF_PROXY_ARP
 TUN_ADVICE = {
     errno.ENOENT: "in a container give it --device /dev/net/tun; elsewhere sudo modprobe tun",
@@ -103,7 +111,8 @@ def around_address(
     family: int, index: int, source: str, bits: int, table: int, metric: Optional[int], gateway: Optional[str]
 ) -> tuple[bytes, bytes]:
     """Returns the text before and after the address in a query for a way, which is the same for most hosts in a net."""
-    scope, length = 0 if gateway or family == socket.AF_INET6 else LINK_SCOPE, 16 if family == socket.AF_INET6 else 4
+    scope = 0 if gateway or family == socket.AF_INET6 else LINK_SCOPE
+    length = 16 if family == socket.AF_INET6 else 4
     before = struct.pack("BBBBBBBBIHH", family, bits, 0, 0, 0, BY_BOOT, scope, UNICAST, 0, 4 + length, DESTINATION)
     attributes = [
         (OUT_BY, struct.pack("I", index)),

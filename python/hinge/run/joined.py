@@ -148,7 +148,9 @@ def said(engine: str, *words: str) -> Answer:
 def process_of(name: str) -> str:
     """Returns the first process of a container. Wrong: no running container has this name, or several have this image. Missing: no
     engine answers."""
-    engines, others, faults = [engine for engine in ENGINES if shutil.which(engine)], list[str](), list[str]()
+    engines = [engine for engine in ENGINES if shutil.which(engine)]
+    others = list[str]()
+    faults = list[str]()
     for engine in engines:
         all_names = said(engine, "ps", "--format", "{{.Names}} {{.Image}}")
         if all_names.status:

@@ -48,14 +48,18 @@ def words_for(process: str, own_users: bool, ipv6: bool, loopback: bool, outer: 
     Unless told otherwise, both map the gateway to the system's loopback, and servers there would see local callers."""
     network, users = f"/proc/{process}/ns/net", f"/proc/{process}/ns/user"
     if shutil.which("slirp4netns"):
-        more = [*["--enable-ipv6"] * ipv6, *["--disable-host-loopback"] * (not loopback), *[f"--userns-path={users}"] * own_users]
+        more = [
+            *["--enable-ipv6"] * ipv6,
+            *(["--disable-host-loopback"] if not loopback else []),
+            *[f"--userns-path={users}"] * own_users,
+        ]
         return ["slirp4netns", "--configure", "--mtu=1500", f"--cidr={outer.net}", "--netns-type=path", *more, network, INTERFACE]
     more = ["--address", OWN6, "--gateway", GATEWAY6] if ipv6 else ["--ipv4-only"]
     return [
         *("pasta", "--foreground", "--quiet", "--config-net", "--ns-ifname", INTERFACE, *more, "--mtu", "1500"),
         *("--address", outer.own, "--netmask", "24", "--gateway", outer.gateway, "--dns-forward", outer.resolver),
         *"-t none -u none -T none -U none".split(),
-        *["--no-map-gw"] * (not loopback),
+        *(["--no-map-gw"] if not loopback else []),
         *("--userns", users, "--netns", network),
     ]
 
@@ -66,7 +70,8 @@ class Outside:
     def __init__(self, loopback: bool, network: str) -> None:
         """`network` is the hosts' network, with which the outer side's doesn't overlap."""
         overlaps = ipaddress.IPv4Network(FIRST.net).overlaps(ipaddress.IPv4Network(network))
-        self.loopback, self.outer = loopback, SECOND if overlaps else FIRST
+        self.loopback = loopback
+        self.outer = SECOND if overlaps else FIRST
         if not shutil.which("slirp4netns") and (os.geteuid() == 0 or not shutil.which("pasta")):
             raise Missing(
                 "--outside: slirp4netns isn't there, nor pasta, which serves users but root: sudo apt install slirp4netns"

@@ -28,7 +28,8 @@ def value(line: str, option: str) -> str:
 def idle_queues(plan: Plan) -> Iterator[tuple[int, str]]:
     """Yields the ways with a queue in which no packet ever waits, with the reason."""
     for way in range(plan.ways):
-        target, line = Target("pipe", way + 1), plan.current.get(Target("pipe", way + 1), "")
+        target = Target("pipe", way + 1)
+        line = plan.current.get(Target("pipe", way + 1), "")
         if not value(line, "queue") or any(digit in value(line, "bw") for digit in "123456789"):
             continue
         all_changes = [plan.changes, plan.behind_main]

@@ -126,7 +126,8 @@ class Processes:
         self.reap()
         themselves = {name for name, process in processes.items() if process in self.ended}
         others = [process for name, process in processes.items() if name not in themselves]
-        victims, endings = self.end_all(others, patience), dict[str, Ended]()
+        victims = self.end_all(others, patience)
+        endings = dict[str, Ended]()
         for name, process in processes.items():
             after = round(self.ended_at.get(process, time.monotonic()) - start, 3)
             by = "itself" if name in themselves else "SIGKILL" if process in victims else "SIGTERM"

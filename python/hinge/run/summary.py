@@ -49,7 +49,7 @@ def void(counts: Counts, drops: Sequence[int], limit: Optional[float], names: Se
     links = "the link" if names is NAMES else "the links"
     if counts.slept > LEAST_SLEEP:
         lines.append(f"this machine was suspended for {counts.slept / 1e9:.3f} s")
-    return lines + [f"{links} broke off before the end"] * (counts["state"] != ENDED_WELL)
+    return lines + ([f"{links} broke off before the end"] if counts["state"] != ENDED_WELL else [])
 
 
 LEAST_SLEEP = 10_000_000  # ns
@@ -65,9 +65,14 @@ def cautions(counts: Counts, drops: Sequence[int], plan: str, names: Sequence[st
     delays = [int(delay) for pipe, delay in DELAY.findall(plan) if int(delay) and int(pipe or 0) < second]
     limit = min(delays) / PART_OF_DELAY if delays else WITHOUT_DELAY
     result = [line for name, way, losses in zip(names, counts.ways, drops) for line in judged(name, way, losses, limit)]
-    return [f"{CAUTION}: {line}" for line in result[:MOST_TOLD]] + [
-        f"--late {limit:g}ms makes such a run void" + f", and names {len(result) - MOST_TOLD} more ways" * (len(result) > MOST_TOLD)
-    ] * bool(result)
+    return [f"{CAUTION}: {line}" for line in result[:MOST_TOLD]] + (
+        [
+            f"--late {limit:g}ms makes such a run void"
+            + (f", and names {len(result) - MOST_TOLD} more ways" if len(result) > MOST_TOLD else "")
+        ]
+        if result
+        else []
+    )
 
 
 SELDOM = (
@@ -80,7 +85,7 @@ def direction(name: str, way: Way, drops: int) -> str:
     """Returns the counts of a direction. Excessive lateness is reported; the record always contains it."""
     text = f"{way['came']} came, {way['sent']} delivered, {way['lost']} lost, {way['full']} met a full queue"
     seldom = "".join(f", {way[key]} {words}" for key, words in SELDOM if way[key])
-    drops_text = f", the system dropped {drops} before the link and {way['refused']} behind it" * bool(drops or way["refused"])
+    drops_text = f", the system dropped {drops} before the link and {way['refused']} behind it" if drops or way["refused"] else ""
     return f"{name}: {f'{text}, {way.underway} under way' if way['came'] else 'nothing came'}{seldom}{drops_text}"
 
 

@@ -14,7 +14,12 @@ from hinge.border.scratch import held
 from hinge.command import FILES, Fault
 from hinge.run.steps import kept_as_step
 
-NEWNS, NEWUTS, NEWUSER, NEWPID, NEWNET = 0x00020000, 0x04000000, 0x10000000, 0x20000000, 0x40000000  # of unshare(2)
+# of unshare(2)
+NEWNS = 0x00020000
+NEWUTS = 0x04000000
+NEWUSER = 0x10000000
+NEWPID = 0x20000000
+NEWNET = 0x40000000
 BIND, REC, PRIVATE = 0x1000, 0x4000, 0x40000  # of mount(2)
 DETACH = 2  # of umount2(2)
 FROM_HERE, EXCHANGE = -100, 2  # of renameat2(2)

@@ -14,7 +14,8 @@ from hinge.simulated.pauses import Paused
 
 LONGEST_PACKET = 1500
 LOSS = re.compile(r"\s(?:loss|plr) \S+")
-LINKS, LOSSES = re.compile(r"(link|switch|--(link|up|down|line))[ =]"), re.compile(r"(--)?loss[ =]")
+LINKS = re.compile(r"(link|switch|--(link|up|down|line))[ =]")
+LOSSES = re.compile(r"(--)?loss[ =]")
 
 
 class Part(NamedTuple):

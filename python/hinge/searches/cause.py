@@ -19,7 +19,8 @@ from hinge.simulated.pauses import given
 from hinge.simulated.places import has_debugger, innermost
 from hinge.simulated.start import MACHINE_HISTORY
 
-SUBMIT, LOST = re.compile(r"c,\d+,submit,(pipe|queue),(\d+),"), "r,lost"
+SUBMIT = re.compile(r"c,\d+,submit,(pipe|queue),(\d+),")
+LOST = "r,lost"
 CONFIGURED = re.compile(r"c,\d+,configure,pipe (\d+) config(?P<cut>.* plr 1(?![.\d]))?")
 MOST_LOST = 2000  # lost packets that a search leaves out one by one
 WORDS = ("--loss up:list:", "--loss down:list:")
@@ -49,7 +50,11 @@ def way_names(what: "list[str]") -> "list[str]":
 def packets_lost(paths: "list[Path]", ways: int) -> "Optional[list[Lost]]":
     """Returns the lost packets on these ways; None if packets also met queues, which changes their numbers, or if there are too
     many. A cut's losses belong to the cut, which a search leaves out separately."""
-    count, losses, way, cuts, row = Counter[int](), list[Lost](), -1, set[int](), ""
+    count = Counter[int]()
+    losses = list[Lost]()
+    way = -1
+    cuts = set[int]()
+    row = ""
     for line in (line for path in paths for line in path.open(encoding="utf-8", errors="replace")):
         if one := SUBMIT.match(line):
             if one[1] == "queue":

@@ -133,7 +133,8 @@ def reports_with_least(item: pytest.Item, nextitem: Optional[pytest.Item]) -> li
     report = failure(result)
     trials.place = place_of(report)
     if report is not None and trials.place is not None:
-        count, faults = len(trials.network().chosen()), trials.shrunk(Trial())
+        count = len(trials.network().chosen())
+        faults = trials.shrunk(Trial())
         text = "no such failure by these faults alone" if faults is None else text_of(faults, count, trials)
         report.sections.append((LEAST, text))
     return result

@@ -38,7 +38,7 @@ def folder() -> Path:
 def load(command: str) -> None:
     """Imports here what the command would import in each fork. What isn't there, the command tells."""
     names = ["hinge.__main__", f"hinge.commands.{command.replace('-', '_')}"]
-    for name in [*names, *["matplotlib.figure", "matplotlib.backends.backend_svg"] * (command in DRAWS)]:
+    for name in [*names, *(["matplotlib.figure", "matplotlib.backends.backend_svg"] if command in DRAWS else [])]:
         with suppress(ImportError):
             importlib.import_module(name)
 

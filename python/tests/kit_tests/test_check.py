@@ -115,7 +115,7 @@ def check(*paths: Path) -> tuple[int, str]:
 
 def verdict(line: str) -> subprocess.CompletedProcess[str]:
     """What the program says of a line, below that of pipe 1 where the line is a queue's."""
-    path = file("one", "pipe 1 config\n" * line.startswith("queue") + line + "\n")
+    path = file("one", ("pipe 1 config\n" if line.startswith("queue") else "") + line + "\n")
     return subprocess.run([dummynet(), "replay", path, "/dev/null"], capture_output=True, text=True)
 
 
@@ -123,7 +123,7 @@ class Lines(unittest.TestCase):
     def test_each_wrong_line_is_told_where_the_program_has_it(self) -> None:
         for line, said in {**REPLACED, **TOLD}.items():
             with self.subTest(line):
-                path = file("link.config", "pipe 1 config\n" * line.startswith("queue") + line + "\n")
+                path = file("link.config", ("pipe 1 config\n" if line.startswith("queue") else "") + line + "\n")
                 (status, out), program = check(path), verdict(line)
                 assert (status, program.returncode) == (3, 3)
                 number = re.search(r"line (\d+)(?:, word (\d+))?", program.stderr)
@@ -187,7 +187,8 @@ class Rows(unittest.TestCase):
 
     def test_a_field_as_long_as_a_file(self) -> None:
         """Longer than a field of Python's csv is by default, 131,072 bytes."""
-        config, path = file("c.config", "pipe 1 config\n"), file("p.csv", HEAD + GOOD + "1" * 200_000 + "\n")
+        config = file("c.config", "pipe 1 config\n")
+        path = file("p.csv", HEAD + GOOD + "1" * 200_000 + "\n")
         status, out = check(config, path)
         assert status == 4
         assert out.startswith(f"{path}:2: "), out[:200]

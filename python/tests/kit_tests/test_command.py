@@ -48,7 +48,8 @@ class Progress(unittest.TestCase):
 
 
 def test_a_bar_counts_steps_and_failures() -> None:
-    clock, terminal = mock.patch.object(command.time, "monotonic", side_effect=[0, 1, 2.5, 2.6, 4]), Terminal()
+    clock = mock.patch.object(command.time, "monotonic", side_effect=[0, 1, 2.5, 2.6, 4])
+    terminal = Terminal()
     with clock, contextlib.redirect_stderr(terminal):
         bar = command.Bar("runs", 8)
         for failed in (False, True, False, False):
@@ -103,7 +104,7 @@ class Ends(unittest.TestCase):
             (SystemExit(), 0, ""),
             (KeyboardInterrupt(), 130, ""),
         ):
-            self.assertEqual(self.ended(mock.Mock(side_effect=error)), (status, f"hinge some: {told}\n" * bool(told)))
+            self.assertEqual(self.ended(mock.Mock(side_effect=error)), (status, f"hinge some: {told}\n" if told else ""))
 
     def test_an_interrupt_while_python_loads_the_kit_ends_it_without_a_word(self) -> None:
         module, kit = folder() / "early" / "sitecustomize.py", TOP / "python" / "hinge" / "__main__.py"

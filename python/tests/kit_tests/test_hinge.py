@@ -89,7 +89,8 @@ class Help(unittest.TestCase):
 
     def test_each_page_that_a_help_names_is_there(self) -> None:
         """The check uses `hinge docs`, since an installation contains no folder docs/."""
-        pages, named = {page.stem for page in (TOP / "docs").glob("*.md")}, 0
+        pages = {page.stem for page in (TOP / "docs").glob("*.md")}
+        named = 0
         for command in COMMANDS:
             told = run(command, "--help").stdout
             assert "docs/" not in told.replace("\n", " "), command

@@ -28,7 +28,8 @@ class Forms(unittest.TestCase):
     def test_a_transcript_that_was_cut_anywhere(self) -> None:
         """What stands in it is looked at: as many packets as there are calls with a reply, those out that were delivered."""
         submits = [f"c,0,submit,pipe,1,10.0.0.{row % 3},10.0.0.2,17,1,2,1000,0,{row * 700_000}" for row in range(8)]
-        configured, collects = "pipe 1 config bw 8Mbit/s queue 3", ["c,0,collect,2500000", "c,0,collect,90000000"]
+        configured = "pipe 1 config bw 8Mbit/s queue 3"
+        collects = ["c,0,collect,2500000", "c,0,collect,90000000"]
         whole = live([configured, *submits[:4], "next", collects[0], *submits[4:], collects[1]])
         self.assertIn("#,next,", whole)
         rng = random.Random(5)
@@ -127,7 +128,8 @@ class Blocks(unittest.TestCase):
         """Its changes, remarks, line ends and quotes."""
         lines = [f"pipe 1 config bw 8Mbit/s delay {row}\n{SUBMIT}{row * 900_000}\nc,0,show" for row in range(6)]
         text = live([*lines, "next", "c,0,collect,9000000"]).replace("\nend,", "\n#,late,1000000000,5,6,7,8\n#,seed,5\nend,")
-        path, readers = folder() / "blocks.history", [reader(size) for size in (1, 7, 300)]
+        path = folder() / "blocks.history"
+        readers = [reader(size) for size in (1, 7, 300)]
         for form in (text, text.replace("\n", "\r\n"), text.replace("pipe,1", '"pipe","1"'), text[:-6], text + "\n\n"):
             path.write_bytes(form.encode())
             one = read_history(str(path))

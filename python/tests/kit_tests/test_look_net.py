@@ -21,7 +21,9 @@ CUT_FROM, CUT_TO = 4 * SECOND, 6 * SECOND
 def cut_link() -> str:
     """A packet of 1,250 bytes each 100 ms for 10 s over a - r, of 10 ms; the way to r is cut from 4 s to 6 s, and then
     is one of 20 ms."""
-    lines, entries, number = ["dummynet-live,1", *(line.strip() for line in HOSTS), "#,seed,7"], 0, 0
+    lines = ["dummynet-live,1", *(line.strip() for line in HOSTS), "#,seed,7"]
+    entries = 0
+    number = 0
     changes = [(CUT_FROM, "delay 10 plr 1"), (CUT_TO, "delay 20")]
     for pipe in (1, 2, 3, 4):
         lines += [f"c,0,configure,pipe {pipe} config delay 10", "r,configured"]
@@ -31,7 +33,8 @@ def cut_link() -> str:
             at, words = changes.pop(0)
             lines += [f"c,0,advance,{at}", f"r,advanced,{at}", f"c,0,configure,pipe 1 config {words}", "r,configured"]
             entries += 2
-        is_lost, due = CUT_FROM <= moment < CUT_TO, moment + (10 if moment < CUT_TO else 20) * MS
+        is_lost = CUT_FROM <= moment < CUT_TO
+        due = moment + (10 if moment < CUT_TO else 20) * MS
         lines += [
             f"#,content,{number:016x}",
             f"c,0,submit,pipe,1,10.8.0.1,10.8.0.3,17,1,2,1250,0,{moment}",
@@ -92,7 +95,8 @@ class OfNets(unittest.TestCase):
 
     def test_a_cut_that_has_no_end(self) -> None:
         text = cut_link()
-        begin, end = text.index("c,0,advance,6000000000"), text.index("#,content", text.index("c,0,advance,6000000000"))
+        begin = text.index("c,0,advance,6000000000")
+        end = text.index("#,content", text.index("c,0,advance,6000000000"))
         _, told = self.looked(text[:begin] + text[end:])
         assert [(cut["begin_ns"], cut["end_ns"]) for cut in told["cuts"]] == [(CUT_FROM, 9_920 * MS)]
 

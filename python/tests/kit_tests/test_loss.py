@@ -177,7 +177,8 @@ WRONG = (
 def fits(line: str, frame: Frame, way: int) -> bool:
     """What hinge-link does with a line of a plan and a packet."""
     _, of_way, _, _, protocol, dscp, *nets_and_ports = line.split()
-    sides, ports = nets_and_ports[:4], list(map(int, nets_and_ports[4:]))
+    sides = nets_and_ports[:4]
+    ports = list(map(int, nets_and_ports[4:]))
     for text, address, mask in ((frame.src, *sides[:2]), (frame.dst, *sides[2:])):
         number = int(ipaddress.ip_address(text)) | (0 if ":" in text else MAPPED)
         if number & int(mask, 16) != int(address, 16):
@@ -211,7 +212,10 @@ class Rules(unittest.TestCase):
         for _ in range(3000):
             kinds = rng.sample(list(CHOICES), rng.randint(0, 3))
             text = " ".join([*(rng.choice(CHOICES[kind]) for kind in kinds), "=> queue 7"])
-            live, of_capture, frame, way = Rule(text), read_rule(text), random_frame(rng), rng.randint(0, 1)
+            live = Rule(text)
+            of_capture = read_rule(text)
+            frame = random_frame(rng)
+            way = rng.randint(0, 1)
             self.assertEqual((live.way, of_capture.target), (of_capture.way, "queue,7"))
             lines = live.lines(way if live.way is None else live.way)
             there = any(fits(line, frame, way) for line in lines)

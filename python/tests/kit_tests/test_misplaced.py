@@ -182,7 +182,7 @@ class Misplaced(unittest.TestCase):
         lists = {"act": "at 1s up 5ms", "late": "1s: 5ms", "lost": "client -> server packet 3 dropped", "script": "#!/bin/sh"}
         nets = {f"{name}.net": line for name, line in nets.items()}
         for name, line in {**nets, **{f"FILE.{name}": line for name, line in lists.items()}}.items():
-            (folder() / name).write_text("host a sleep 9\nhost b sleep 9\nlink a b 1ms\n" * name.endswith(".net") + line)
+            (folder() / name).write_text(("host a sleep 9\nhost b sleep 9\nlink a b 1ms\n" if name.endswith(".net") else "") + line)
         shutil.copy(MIXED, folder() / "FILE.capture")
 
     def test_each_kind_is_known_by_its_front(self) -> None:

@@ -65,7 +65,9 @@ class Outputs(unittest.TestCase):
         self.refused(capture, "look", packets, report, "--capture", capture, "--index", folder() / "shared.index", "-o", capture)
 
     def test_what_fails_leaves_the_older_file(self) -> None:
-        packets, wrong, report = write("f.csv", ROWS), write("f.wrong", "no report\n"), write("f.report", "older\n")
+        packets = write("f.csv", ROWS)
+        wrong = write("f.wrong", "no report\n")
+        report = write("f.report", "older\n")
         self.assertEqual(4, run("look", packets, wrong, "--json", report).returncode)
         self.assertEqual("older\n", report.read_text())
         report.chmod(0o640)

@@ -27,8 +27,11 @@ def every_capture() -> list[Path]:
     """Those that the tests write, mixed.pcap, and some of them in other forms."""
     odd_ethernet(folder() / "odd.pcap")
     other_links(folder())
-    several, raw = nested(folder()), (folder() / "raw.pcap").read_bytes()
-    half, swapped, twice = folder() / "half.pcap", folder() / "swapped.pcap", folder() / "twice.pcapng"
+    several = nested(folder())
+    raw = (folder() / "raw.pcap").read_bytes()
+    half = folder() / "half.pcap"
+    swapped = folder() / "swapped.pcap"
+    twice = folder() / "twice.pcapng"
     half.write_bytes(MIXED.read_bytes()[:50_000])
     packet = raw[40 : 40 + int.from_bytes(raw[32:36], "little")]
     # in microseconds

@@ -71,7 +71,8 @@ class Panels(unittest.TestCase):
         config = write("pipes.config", "".join(f"pipe {number} config bw 8Mbit/s\n" for number in range(1, 12)))
         packets = write("pipes.csv", "\n".join([HEADER, *lines]) + "\n")
         parts = parts_of(config, packets, replayed("pipes", config, packets))
-        changes, bounds = [(0, text) for text in parts.configuration.lines], bounds_of(parts.replay, parts.configuration)
+        changes = [(0, text) for text in parts.configuration.lines]
+        bounds = bounds_of(parts.replay, parts.configuration)
         groups = group(parts.replay, "tuple").largest(parts.replay.packets.length, 1)
         found = series(parts.replay, groups, NS_PER_S, NS_PER_S, changes, bounds=bounds)
         large = [f"pipe {number}" for number in range(3, 11)]

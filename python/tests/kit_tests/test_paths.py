@@ -186,7 +186,8 @@ class Paths(unittest.TestCase):
         text = Net(good, [Packet(place) for place in range(20)]).text
         place = folder() / "parts"
         place.mkdir(exist_ok=True)
-        first, second = text, Net(good, [Packet(100 + place) for place in range(10)]).text
+        first = text
+        second = Net(good, [Packet(100 + place) for place in range(10)]).text
         (place / "net.history").write_text(first)
         (place / "net.history.1").write_text(
             "".join(line for line in second.splitlines(True) if not line.startswith(("#,host", "#,pipe")))
@@ -255,7 +256,8 @@ class Paths(unittest.TestCase):
         def router(number: int, packet: Packet) -> list[tuple[int, Packet]]:
             return good(number, packet) if is_handed_on(packet) else []
 
-        chosen, faults = Random(6), ("lost", "changed", "twice", "forged", "swapped")
+        chosen = Random(6)
+        faults = ("lost", "changed", "twice", "forged", "swapped")
         packets = [
             Packet(1 + place, dst=chosen.choice(("10.8.0.2",) * 3 + ("224.0.0.5", "239.1.1.1")), last=chosen.random() < 0.2)
             for place in range(80)

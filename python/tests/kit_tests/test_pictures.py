@@ -262,13 +262,15 @@ class Pictures(unittest.TestCase):
 class Command(unittest.TestCase):
     @unittest.skipUnless(matplotlib_there(), "matplotlib isn't there")
     def test_the_fewest_are_judged_and_drawn(self) -> None:
-        path, picture = write("ops.jsonl", "\n".join(map(json.dumps, LOST))), folder() / "x.svg"
+        path = write("ops.jsonl", "\n".join(map(json.dumps, LOST)))
+        picture = folder() / "x.svg"
         done = run("look", path, write("f.net", NET + FAULTS), "--model", "set", "-o", picture)
         self.assertEqual((done.returncode, done.stdout.count(f"\n{path}:")), (1, 2), done.stderr)
         self.assertIn("at 1s cut a from b 2s", picture.read_text())
 
     def test_what_has_an_order_has_no_picture(self) -> None:
-        path, picture = write("ops.jsonl", json.dumps(LOST[2])), folder() / "none.svg"
+        path = write("ops.jsonl", json.dumps(LOST[2]))
+        picture = folder() / "none.svg"
         done = run("look", path, "--model", "set", "-o", picture)
         self.assertEqual((done.returncode, picture.exists()), (0, False))
         self.assertIn("nothing to draw", done.stderr)

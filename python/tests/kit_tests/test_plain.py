@@ -64,7 +64,8 @@ class WithoutNumpy(unittest.TestCase):
         place = folder() / "plain.session"
         place.mkdir()
         shutil.copy(history_of("shared"), place / "net.history")
-        done, ways = without_numpy("look", place), run("look", place / "net.history", "--by", "target")
+        done = without_numpy("look", place)
+        ways = run("look", place / "net.history", "--by", "target")
         self.assertEqual((done.returncode, done.stdout), (7, ways.stdout))
         self.assertRegex(done.stderr, r"hinge look: the hosts, the paths .*: needs Python's numpy: .*numpy\n\Z")
 
@@ -79,7 +80,8 @@ class WithoutNumpy(unittest.TestCase):
             fields = lines[20].split(",")
             fields[place] = word
             path.write_text("\n".join([*lines[:20], ",".join(fields), *lines[21:]]) + "\n")
-            one, other = run("look", path, report), without_numpy("look", path, report)
+            one = run("look", path, report)
+            other = without_numpy("look", path, report)
             self.assertEqual((4, one.stdout, one.stderr), (other.returncode, other.stdout, other.stderr), word)
 
     def test_a_picture_needs_it(self) -> None:

@@ -132,7 +132,8 @@ at 1300ms stop a 5s
 """
         told = "300 stop 350 stop 600 cont 700 stop 800 cont 800 stop 900 cont 1050 stop 1100 stop 1200 cont 1300 stop".split()
         acts = [at(int(ms) * S // 1000 + 100, f"#,late-act,37000\n#,act,{word} a\n") for ms, word in zip(told[::2], told[1::2])]
-        begun, end = ENDS + lines(*FIRST[:2]), at(2 * S, "#,ending\n#,late-act,24450\n#,act,cont a\n")
+        begun = ENDS + lines(*FIRST[:2])
+        end = at(2 * S, "#,ending\n#,late-act,24450\n#,act,cont a\n")
         assert self.broken(begun + "".join(acts) + end, net) == ""
         for history, wanted in (
             ([*acts[:5], *acts[6:], end], "line 8: `at 800ms stop a 100ms`: `stop a` came 250.037 ms late"),
@@ -161,7 +162,8 @@ at 1300ms stop a 5s
         draws = Draws(7, 0, "corrupt 100%".split(), "", None)
         sent = f"c,0,submit,pipe,1,10.8.0.1,10.8.0.2,17,1,2,36,{word(7, 0, 1)},50\nr,queued,50,0,0\n"
         left = sent + "c,0,collect,5000050\nd,0,0,50,5000050\nr,collected,5000050,1\n"
-        bit, begun = draws.bit(draws.flipped(), 128), ENDS + "#,seed,7\n" + lines(*FIRST[:2])
+        bit = draws.bit(draws.flipped(), 128)
+        begun = ENDS + "#,seed,7\n" + lines(*FIRST[:2])
         for history, wanted in (
             (f"{left}#,corrupt,0,{bit},128,0\n", ""),
             (left, "packet 0 left whole: the seed flips one of its bits"),
@@ -195,9 +197,8 @@ at 1300ms stop a 5s
         assert "the links refused `queue delete 2`: no-such-queue" in self.broken(HONEST + line)
 
     def test_a_loss_that_a_queue_goes_past(self) -> None:
-        net, history = NET.replace("b 5ms", "b 5ms loss 50%"), HONEST.replace("delay 5", "delay 5 plr 0.5").replace(
-            "plr 0.5 plr", "plr"
-        )
+        net = NET.replace("b 5ms", "b 5ms loss 50%")
+        history = HONEST.replace("delay 5", "delay 5 plr 0.5").replace("plr 0.5 plr", "plr")
         self.assertRegex(self.broken(history, net), "line 4: `link a b 5ms loss 50%`: its loss isn't that of packets which")
         assert self.broken(history, net.replace("weight 3", "weight 3 plr 0")) == ""
 

@@ -73,7 +73,8 @@ class ByHand(unittest.TestCase):
             "lost.csv", HEADER + "\n" + "".join(f"{moment},pipe,7,10.0.0.1,10.0.0.2,17,1,2,1000,0\n" for moment in (0, 1000))
         )
         spelled = write("lost1.config", "pipe 1 config bw 8Mbit/s\n")
-        report, history = replay("lost", spelled, packets), recorded("lost", spelled, packets)
+        report = replay("lost", spelled, packets)
+        history = recorded("lost", spelled, packets)
         for words in (("look", packets, report), ("look", packets, report, "-o", "lost.png"), ("look", history)):
             done = run(*words)
             told = (

@@ -170,7 +170,8 @@ class Changed(unittest.TestCase):
     def judge(self, explainer: Explainer, queues: list[list[int]], later: dict, kinds: Counter, seed: int) -> None:
         replay = explainer.replay
         for place in range(len(replay.packets)):
-            text, event = explainer.paragraph(place + 1), EVENT_NAMES[replay.event[place]]
+            text = explainer.paragraph(place + 1)
+            event = EVENT_NAMES[replay.event[place]]
             with self.subTest(seed=seed, row=place + 1, text=text):
                 kinds[event] += 1
                 if event == "out":
@@ -312,9 +313,8 @@ class Command(unittest.TestCase):
 
     def test_faults_are_one_line(self) -> None:
         config, packets, report = late()
-        bad_config, bad_row = write("bad.config", "pipe 1 confg\n"), write(
-            "bad.csv", f"{HEADER}\n\n1,pipe,1,10.0.0.1,10.0.0.2,17,1,2,x,0\n"
-        )
+        bad_config = write("bad.config", "pipe 1 confg\n")
+        bad_row = write("bad.csv", f"{HEADER}\n\n1,pipe,1,10.0.0.1,10.0.0.2,17,1,2,x,0\n")
         short = write("short.report", "\n".join(report.read_text().splitlines()[:-1]) + "\n")
         absent = 9999
         (folder() / "bytes.csv").write_bytes(f"{HEADER}\n1,pipe,1,10.0.0.1,10.0.0.2,17,1,\n".encode() + b"\xff\n")

@@ -76,9 +76,12 @@ def frame_by_fields(number: int, value: dict[str, str]) -> Optional[Packet]:
         return None
     if ip == "ip":
         proto, own = int(value["ip.proto"]), int(value["ip.hdr_len"])
-        length, fragment = int(value["ip.len"]), value["ip.frag_offset"]
+        length = int(value["ip.len"])
+        fragment = value["ip.frag_offset"]
     else:
-        proto, own, fragment = final_header(value), 40, value["ipv6.fraghdr.offset"]
+        proto = final_header(value)
+        own = 40
+        fragment = value["ipv6.fraghdr.offset"]
         length = int(value["ipv6.plen"]) and int(value["ipv6.plen"]) + own
     if length == 0:  # a packet of more than 65,535 bytes, or one that the card was still to cut
         before = link_bytes(protocols, ip)

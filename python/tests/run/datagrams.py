@@ -55,7 +55,8 @@ def rounds(client: socket.socket, server: socket.socket, path: Path, count: int)
     """Returns the seconds of consecutive round trips through the path, with 0 for a round that brought another datagram."""
     took = []
     for number in range(count):
-        sent, begun = number.to_bytes(4, "big") + bytes(SIZE - 4), time.monotonic()
+        sent = number.to_bytes(4, "big") + bytes(SIZE - 4)
+        begun = time.monotonic()
         client.sendto(sent, (LOOPBACK[client.family], path.port))
         came, source = server.recvfrom(65536)
         server.sendto(came, source)

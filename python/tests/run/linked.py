@@ -182,7 +182,10 @@ class Ended:
     """A link's result: its status, counts, transcript, and output."""
 
     def __init__(self, status: int, counts: Counts, history: str, said: str) -> None:
-        self.status, self.counts, self.history, self.said = status, counts, history, said
+        self.status = status
+        self.counts = counts
+        self.history = history
+        self.said = said
 
 
 class Linked:

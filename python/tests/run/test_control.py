@@ -43,13 +43,16 @@ os._exit(0)
 class InAFolder(WithFolder):
     def setUp(self) -> None:
         super().setUp()
-        self.socket, self.go, self.history = self.folder / "socket", self.folder / "go", self.folder / "history"
+        self.socket = self.folder / "socket"
+        self.go = self.folder / "go"
+        self.history = self.folder / "history"
 
     @contextlib.contextmanager
     def running(self, *words: object) -> Iterator["subprocess.Popen[str]"]:
         """Starts a run with a socket, which lasts until the file `go` exists."""
         command = [*HINGE, *map(str, words), *f"--control {self.socket} --transcript {self.history} --quiet".split()]
-        command += ["--no-realtime"] * (words[0] == "net")  # of which a user without rights is told
+        if words[0] == "net":
+            command.append("--no-realtime")  # of which a user without rights is told
         loop = ["--", "sh", "-c", f"until [ -e {self.go} ]; do sleep 0.05; done"] if words[0] != "udp" else []
         begun = subprocess.Popen([*command, *loop], stdout=subprocess.PIPE, stderr=subprocess.PIPE, text=True)
         try:

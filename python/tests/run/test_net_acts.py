@@ -209,7 +209,8 @@ class OfMoments(InAFolder):
         done = self.net(self.SLOW + "at 0s cut a 1h\n")
         self.assertNotIn("before the main", done.stderr)
         self.assertEqual((sum(way["lost"] for way in self.summary()["ways"]) > 0, done.returncode), (True, 1))
-        cuts, begun = found(r"^r,advanced,(\d+)\nc,0,configure,pipe 1 .* plr 1$", self.history()), self.summary()["main"]
+        cuts = found(r"^r,advanced,(\d+)\nc,0,configure,pipe 1 .* plr 1$", self.history())
+        begun = self.summary()["main"]
         self.assertEqual(([int(one) for one in cuts], begun > 10**9), ([begun], True))
 
     def test_a_cut_that_begins_in_another_doesnt_end_it(self) -> None:

@@ -92,7 +92,9 @@ class OfRoutes(InAFolder):
 
     def test_members_of_a_group(self) -> None:
         """The kernel itself sends no message, not even for routers, and only the member's host reports the group."""
-        member, asker, log = self.script("member.py", MEMBER), self.script("asker.py", ASKER), self.logs / "a.log"
+        member = self.script("member.py", MEMBER)
+        asker = self.script("asker.py", ASKER)
+        log = self.logs / "a.log"
         done = self.logged(
             f"host a exec {member}\nrouter r\nmain c until grep -qs on {log}; do sleep 0.01; done; exec {asker}\n"
             "link c a 1ms\nlink r c 1ms\n"

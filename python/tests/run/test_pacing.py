@@ -47,7 +47,9 @@ def opportunities(moments: list[int]) -> Iterator[int]:
 def by_opportunities(packets: list[Passage], moments: list[int]) -> list[int]:
     """Returns each packet's moment of leaving: each opportunity carries this many bytes of the waiting packets, and what nobody
     uses is lost."""
-    left, waiting, coming = [], deque[list[int]](), deque(packets)
+    left = []
+    waiting = deque[list[int]]()
+    coming = deque(packets)
     for moment in opportunities(moments):
         while coming and coming[0][0] <= moment:
             waiting.append([coming.popleft()[1]])

@@ -91,7 +91,8 @@ class OfPasses(unittest.TestCase):
         link = Linked(f"{SEEDS}line pipe 1 config\nline pipe {FIRST} config\njitter 0 {FIRST} 1 7\ncorrupt 0 {CERTAIN // 4} 7\n")
         wanted, got = [udp(0)[:20]], list[bytes]()
         for number in range(1, COUNT):
-            packet, bit = bytearray(udp(number)), word(7, number + 1, 1 + OF_BITS) % 640
+            packet = bytearray(udp(number))
+            bit = word(7, number + 1, 1 + OF_BITS) % 640
             packet[-1 - bit // 8] ^= (word(7, number + 1, 1 + OF_CORRUPTION) < CERTAIN // 4) << bit % 8
             wanted.append(bytes(packet))
         for number in range(COUNT):

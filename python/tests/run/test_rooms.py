@@ -111,7 +111,8 @@ class OfCommands(WithFolder):
             assert "nothing came" in run("--up", words, "--", "true").stderr
 
     def test_names_that_are_not_utf8(self) -> None:
-        name, net = os.path.join(os.fsencode(self.folder), b"a \xff b"), self.folder / "x.net"
+        name = os.path.join(os.fsencode(self.folder), b"a \xff b")
+        net = self.folder / "x.net"
         assert run("--line", os.fsdecode(b"\xff"), "--", "true").returncode == 3
         done = run("--up", "1ms", "--transcript", os.fsdecode(name), "--", "true")
         assert (done.returncode, done.stderr.count("nothing came")) == (0, 2), done.stderr

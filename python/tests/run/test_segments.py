@@ -110,9 +110,8 @@ class OfSegments(unittest.TestCase):
         """Packets with and without a header pass unchanged, among them a complete packet and one whose header doesn't fit."""
         data = os.urandom(3000)
         plain = NOTE.pack(0, 0, 0, 0, 0, 0) + ip4("10.8.0.1", "10.8.0.2", 17, 7, 8, 60000)
-        small, odd = noted(in_ipv4(1, ACK, b"x", 9)), NOTE.pack(CHECKSUM, TCP4, 0, 1448, 65000, TCP_CHECKSUM) + in_ipv4(
-            1, ACK, b"x", 9
-        )
+        small = noted(in_ipv4(1, ACK, b"x", 9))
+        odd = NOTE.pack(CHECKSUM, TCP4, 0, 1448, 65000, TCP_CHECKSUM) + in_ipv4(1, ACK, b"x", 9)
         sent = [plain, small, noted(in_ipv4(0, ACK, data, 3), TCP4, 1500), small, odd, plain]
         got, _ = self.through(sent, 7)
         cut = [noted(in_ipv4(at, ACK, data[at : at + 1500], 3 + at // 1500)) for at in (0, 1500)]
@@ -125,7 +124,8 @@ class OfSegments(unittest.TestCase):
         link = Linked(f"{SEEDS}line pipe 1 config\ncorrupt 0 {2**31} 9\n", carrier="tun")
         for number, packet in enumerate(sent, 1):
             link.near.send(noted(packet))
-            got, header = link.far.recv(70000), 24 if packet[0] >> 4 == 4 else 40
+            got = link.far.recv(70000)
+            header = 24 if packet[0] >> 4 == 4 else 40
             bits = 8 * (len(packet) - header)
             bit = word(9, number, 1 + OF_BITS) % bits
             whole = bytearray(got[10:])
@@ -180,7 +180,9 @@ class OfJoins(unittest.TestCase):
     def test_they_are_cut_again_as_they_were(self) -> None:
         """A busy machine decides how many packets share a write. Another link forwards the card's original packets."""
         for build, kind in ((bare_ipv4, TCP4), (in_ipv6, TCP6)):
-            data, first, start = os.urandom(3 * 1448 + 7), 2**32 - 3000, 20 if kind == TCP4 else 40
+            data = os.urandom(3 * 1448 + 7)
+            first = 2**32 - 3000
+            start = 20 if kind == TCP4 else 40
 
             def built(at: int, end: int) -> bytes:
                 return build(first + at, ACK | PUSH * (end == len(data)), data[at:end], 2**16 - 2 + at // 1448)

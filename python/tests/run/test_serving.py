@@ -57,7 +57,9 @@ class OfServers(WithFolder):
 
     def test_of_runs_that_find_one_dead_socket_one_has_it(self) -> None:
         """The test also lets a socket that isn't a run's take the name after the old one was found dead."""
-        usual, finds, other = serving.reached, iter((True,)), str(self.folder / "other")
+        usual = serving.reached
+        finds = iter((True,))
+        other = str(self.folder / "other")
 
         def reached(path: str) -> int:
             result = usual(path)

@@ -99,7 +99,8 @@ class OfDatagrams(InAFolder):
 
     def test_a_trace(self) -> None:
         """The trace falls from 8 Mbit/s to 80 kbit/s: by the link's clock a packet takes 1 ms before, and 100 ms afterwards."""
-        trace, kept = self.written("trace", "seconds,bit/s\n0,8000000\n1,80000\n"), self.folder / "history"
+        trace = self.written("trace", "seconds,bit/s\n0,8000000\n1,80000\n")
+        kept = self.folder / "history"
         with sockets(2) as [server, client]:
             path = Path(0, port_of(server), "--up-trace", trace, "--transcript", kept)
             rounds(client, server, path, 4)

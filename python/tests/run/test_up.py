@@ -158,7 +158,9 @@ class Sample(NamedTuple):
 
 def parsed(text: str) -> list[Sample]:
     """Parses these texts by the format's rules. ValueError: a rule is broken."""
-    lines, samples, families = text.split("\n"), list[Sample](), dict[str, str]()
+    lines = text.split("\n")
+    samples = list[Sample]()
+    families = dict[str, str]()
     if lines[-2:] != ["# EOF", ""] or lines.count("# EOF") != 1:
         raise ValueError("no end")
     family, seen = "", set[str]()
@@ -173,7 +175,7 @@ def parsed(text: str) -> list[Sample]:
                 raise ValueError(line)
         elif found := SAMPLE.fullmatch(line):
             labels = dict(LABEL.findall(found[2] or ""))
-            if found[1] != family + "_total" * (families[family] == "counter"):
+            if found[1] != family + ("_total" if families[family] == "counter" else ""):
                 raise ValueError(f"{line}: not of {family}")
             if ("quantile" in labels) != (families[family] == "summary") or line.rpartition(" ")[0] in seen:
                 raise ValueError(line)

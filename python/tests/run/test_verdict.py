@@ -95,7 +95,7 @@ class OfIdleEvents(InAFolder):
             ("1s kill a 3s", "start+2s kill a 1s", False),  # whose moments can't be compared
         ):
             first, second = one.split(" ", 1)[1], other.split(" ", 1)[1]
-            self.assertEqual(self.idle(one, other), [f"{second} / {first}"] * is_idle, (one, other))
+            self.assertEqual(self.idle(one, other), [f"{second} / {first}"] if is_idle else [], (one, other))
 
     def test_faults_within_several_others(self) -> None:
         """Each pair of other faults leaves a gap, and of equal faults the first counts."""
@@ -108,7 +108,7 @@ class OfIdleEvents(InAFolder):
             ("1s cut a", "2s heal a", "3s cut a 1s", ""),
             ("1s cut a", "2s cut a", "3s heal a", "cut a / cut a"),
         ):
-            self.assertEqual(self.idle(first, second, third), [wanted] * bool(wanted), (first, second, third))
+            self.assertEqual(self.idle(first, second, third), [wanted] if wanted else [], (first, second, third))
 
     def test_no_word_is_silently_without_effect(self) -> None:
         """Each word names a host or link that doesn't exist, repeats another at its moment, or ends nothing: the kit refuses or
@@ -116,7 +116,7 @@ class OfIdleEvents(InAFolder):
         self.NET = f"{self.NET}disk a data\n"
         endings = {name: word.ending for name, word in WORDS.items()}
         begun = {end: name for name, end in endings.items() if end}
-        of_hosts = [f"{word} a{' +2s' * (word == 'skew')}" for word in WORDS]
+        of_hosts = [f"{word} a{' +2s' if word == 'skew' else ''}" for word in WORDS]
         self.assertRaisesRegex(Wrong, "'corrupt': of a whole run", self.idle, "1s a c 5ms corrupt 1%")
         for words in [*of_hosts, "a c outage 1s", "a c outage 1s lossy", "a c 6ms", "a c pipe 1 config delay 6"]:
             word = words.split()[0]

@@ -134,7 +134,8 @@ class OfTcp(Exact):
         for control in ("reno", "cubic"):
             with self.subTest(control):
                 packets = packets_of(self.carried(control).history)
-                full, last = next(packet.came for packet in packets if packet.fate == "full"), packets[-1].came
+                full = next(packet.came for packet in packets if packet.fate == "full")
+                last = packets[-1].came
                 steady = [packet for packet in served(packets, 1) if full < packet.start < last - SECOND]
                 self.assertGreater(len(steady), 4000)
                 self.assertEqual(set(idle(steady, TEN)), {0})
