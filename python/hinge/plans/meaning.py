@@ -212,7 +212,7 @@ class Meaning:
             length = ns_of(words[2]) if words[2:] and name in ENDINGS_OF_ACTS else 0 if name == "crash" else FOR_EVER - start
             self.add(where, start, kind=name, end=start + length, host=words[1], doubt=doubt)
         else:
-            self.of_link(where, start, *self.between(words), doubt)
+            self.link_change(where, start, *self.between(words), doubt)
 
     def cut(self, where: str, start: int, words: list[str], doubt: int) -> None:
         """Adds a cut or a heal: the pipe loses all packets from one end."""
@@ -225,7 +225,7 @@ class Meaning:
                 if not rest or {sender, receiver} - {host} <= set(rest[1:]):
                     self.add(where, start, kind=kind, end=end, target=("pipe", pipe), port=port, doubt=doubt)
 
-    def of_link(self, where: str, start: int, link: int, is_back: int, words: list[str], doubt: int) -> None:
+    def link_change(self, where: str, start: int, link: int, is_back: int, words: list[str], doubt: int) -> None:
         side = words.pop(0) if words[0] in ("up", "down") else ""
         ways = [0, 1] if not side else [(side == "down") ^ is_back]
         pipes = [2 * link + 1 + way for way in ways]
