@@ -7,7 +7,7 @@ from fractions import Fraction
 
 from hinge.loss import parts, read_numbers, read_rates
 from hinge.run.words import WAYS, Wrong
-from hingetulip_words.values import plain_number
+from hingetulip_words.values import decimal
 
 
 def gilbert(text: str) -> str:
@@ -28,7 +28,7 @@ MODELS = {"gilbert": gilbert, "list": listed}
 def rate_of(text: str) -> str:
     """Returns the percentage if the text is a loss rate, which belongs into the link."""
     rate = re.fullmatch(r"(\d+(?:\.\d+)?|\.\d+)(%?)", text)
-    return plain_number(Fraction(rate[1]) * (1 if rate[2] or Fraction(rate[1]) > 1 else 100)) + "%" if rate else ""
+    return decimal(Fraction(rate[1]) * (1 if rate[2] or Fraction(rate[1]) > 1 else 100)) + "%" if rate else ""
 
 
 def loss_lines(text: str, link: int = 0) -> dict[int, str]:
