@@ -30,7 +30,8 @@ async def offers(offer, answer, done):
 
 
 async def answers(offer, answer, done):
-    peer, got = aiortc.RTCPeerConnection(aiortc.RTCConfiguration(iceServers=[])), []
+    peer = aiortc.RTCPeerConnection(aiortc.RTCConfiguration(iceServers=[]))
+    got = []
 
     @peer.on("datachannel")
     def opened(channel):

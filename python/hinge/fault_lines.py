@@ -62,7 +62,7 @@ class Act:
     seconds: float
 
     def __str__(self) -> str:
-        sign = "+" * (self.kind == SKEW and self.seconds >= 0)
+        sign = "+" if self.kind == SKEW and self.seconds >= 0 else ""
         return f"at {spelled(self.moment)} {self.kind} {self.of} {sign}{spelled(self.seconds)}"
 
 

@@ -23,7 +23,10 @@ if TYPE_CHECKING:
 T = TypeVar("T")
 DELAYS = (5, 20, 50, 100, 300, 1000)  # ms, of packets that hypothesis draws as late
 LASTING = (0.2, 1.0, 3.0, 10.0)  # s, of acts that it draws
-MOST_TRAINS, MOST_OF_TRAIN, MOST_APART, MOST_ACTS = 3, 8, 12, 2
+MOST_TRAINS = 3
+MOST_OF_TRAIN = 8
+MOST_APART = 12
+MOST_ACTS = 2
 
 
 class FaultyNetwork(Network):
@@ -79,14 +82,17 @@ class FaultyNetwork(Network):
 
     def unmet(self) -> Faults:
         """Returns the faults whose packets never arrived, and those without effect."""
-        faults, came = Faults() if self.chosen is None else self.chosen, {it.name: it.came for it in self.links.values()}
+        faults = Faults() if self.chosen is None else self.chosen
+        came = {it.name: it.came for it in self.links.values()}
         packets = (it for it in faults.packets if came.get(it.link, 0) < it.packet)
         return Faults(*packets, *(it for it in faults.acts if it not in self.acted or not self.acted[it].met))
 
     def unmet_faults(self) -> list[str]:
         """Returns the faults of missing links, and listed faults whose packets never came."""
-        lines, names = super().unmet_faults(), [it.name for it in self.links.values()]
-        is_drawn, unmet = isinstance(self.chosen, Drawn), self.unmet()
+        lines = super().unmet_faults()
+        names = [it.name for it in self.links.values()]
+        is_drawn = isinstance(self.chosen, Drawn)
+        unmet = self.unmet()
         for fault in unmet.packets:
             if fault.link not in names:
                 lines.append(f"{fault}: there is no such link; there are {', '.join(names) or 'none'}")

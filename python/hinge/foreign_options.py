@@ -2,14 +2,17 @@
 
 from __future__ import annotations
 
+import re
+
 from hingetulip_words.values import EXTRAS
 
-# Options that people try with `hinge run`, beside those of a link, and what to write, where {0} is the option's value.
+# Options that people try with `hinge run`, beside those of a link, and what to write, where {0} is the option's value; {time},
+# {number} and {seeds} are that value if it is one, or else an example.
 TABLE = """
 --trace = --up-trace {0} --down-trace {0}
---outage = --timeline FILE with a line `5s outage {0}` in FILE
+--outage = --timeline FILE with a line `5s outage {time}` in FILE
 --pcap = --transcript {0}, which `hinge look` draws
---timeout --time --duration --for = timeout {0} before hinge, or --real-limit {0} of simulated time
+--timeout --time --duration --for = timeout {time} before hinge, or --real-limit {time} of simulated time
 --simulate = --simulated
 -l --both = --link {0}
 -o --output = --transcript FILE, and hinge look FILE -o {0}
@@ -25,8 +28,8 @@ TABLE = """
 --profile --conditions = --preset {0}
 --log --record = --transcript {0}
 --report = --json {0}
---seeds = hinge search --seeds {0} run, with the other words behind it
---repeat --count --runs -n = for i in $(seq {0}); do this line; done, or hinge search --seeds 1-{0} run in simulated time
+--seeds = hinge search --seeds {seeds} run, with the other words behind it
+--repeat --count --runs -n = for i in $(seq {number}); do this line; done, or hinge search --seeds 1-{number} run in simulated time
 --meter-all --verbose -v = --watch
 --internet --network = --outside
 --uplink-queue = --up '10Mbit/s queue 100' for {0}
@@ -36,3 +39,23 @@ ROWS = [row.split(" = ", 1) for row in TABLE.strip().splitlines()]
 OPTIONS = {option: (form, "{" in form) for options, form in ROWS for option in options.split()}
 OF_LINK = "--rate --bandwidth --bw --speed --delay --latency --rtt --plr --packet-loss --drop --queue --target-bw".split()
 OF_LINK += [f"--{word}" for word in EXTRAS]
+# The kinds of values that a form may name, each with its pattern and an example.
+KINDS = {"time": (r"\d[\d.]*(ns|us|ms|s|min|h|d)?", "1s"), "number": (r"\d+", "100"), "seeds": (r"\d[\d,-]*", "1-100")}
+
+
+def one_way(option: str, value: str) -> tuple[list[str], str]:
+    """Returns the option's alternatives for the direction that a value like up:20ms begins with, and the value without the direction."""
+    form = OPTIONS[option][0]
+    (way, colon, rest) = value.partition(":")
+    if colon and way in ("up", "down"):
+        form = re.sub(rf"--{'down' if way == 'up' else 'up'}\S+ \S+ ?", "", form).strip()
+        form = form.replace("--link ", f"--{way} ").replace("s outage ", f"s {way} outage ")
+        value = rest
+    return form.split(", or "), value
+
+
+def filled(form: str, words: str) -> str:
+    """Returns the form with the value, or with an example where the form wants another kind of value."""
+    return form.format(
+        words, **{kind: words if re.fullmatch(pattern, words) else example for kind, (pattern, example) in KINDS.items()}
+    )

@@ -25,6 +25,7 @@ OF_CAPTURES = rb"\xd4\xc3\xb2\xa1|\xa1\xb2\xc3\xd4|\x4d\x3c\xb2\xa1|\xa1\xb2\x3c
 TABLE = (
     ("capture", OF_CAPTURES, "a capture", "hinge packets {0} -o packets.csv"),
     ("picture", rb"\x89PNG|%PDF|<\?xml|<svg|(?i:<!doctype html|<html)", "a picture or page, which hinge only writes", ""),
+    ("python", rb"(import \w|from [\w.]+ import )", "a Python program", "hinge run --link 20ms -- python3 {0}"),
     ("program", rb"#!|\x7fELF", "a program", "hinge run --link 20ms -- {0}"),
     ("history", rb"dummynet-(history|live)", "a history", "hinge look {0}"),
     ("report", rb"event,row,flow", "a replay's report", "hinge look PACKETS {0}"),
@@ -144,7 +145,7 @@ def line_for(command: str, kind: str, path: str) -> str:
     form = OF_COMMAND.get(f"{command} {kind}", form)
     name = shlex.quote(path if kind != "program" or "/" in path else f"./{path}")
     line = form.format(name, shlex.quote(os.path.splitext(os.path.basename(path))[0]))
-    return what + f"; write {line}" * bool(line)
+    return what + (f"; write {line}" if line else "")
 
 
 def filled(line: str, words: Sequence[str]) -> str:
@@ -162,7 +163,8 @@ def filled(line: str, words: Sequence[str]) -> str:
 def files_in(command: str, words: Sequence[str]) -> Iterator[tuple[str, str]]:
     """Yields the existing files in a command line, each with the kinds that belong there."""
     option = next((option for option in ("--diff", "--model") if option in words), "")
-    places, before = TAKES.get(f"{command} {option}".rstrip(), "").split(","), ""
+    places = TAKES.get(f"{command} {option}".rstrip(), "").split(",")
+    before = ""
     for word in words:
         if word == "--" or command in ("run", "udp") and not (before.startswith("-") or word.startswith("-")):
             return
@@ -177,16 +179,19 @@ def files_in(command: str, words: Sequence[str]) -> Iterator[tuple[str, str]]:
 
 def in_place(command: str, before: str, word: str) -> str:
     """Returns what to write for a word that isn't a file, where one belongs; an empty text if unknown."""
-    link, kind = corrected(word), kind_of_text(word.encode(errors="replace"))
+    link = corrected(word)
+    kind = kind_of_text(word.encode(errors="replace"))
     if before in OF_OPTIONS:
-        lines = {"--config": f"--line {shlex.quote(word)}" * (kind == "config")}
-        lines["--faults"] = "--faults FILE, with a line `client > server packet 3 lost` in FILE" * (" " in word)
-        lines |= {f"--{way}-trace": f"--{way} {shlex.quote(link or '')}" * bool(link) for way in ("up", "down")}
+        lines = {"--config": (f"--line {shlex.quote(word)}" if kind == "config" else "")}
+        lines["--faults"] = "--faults FILE, with a line `client > server packet 3 lost` in FILE" if " " in word else ""
+        lines |= {f"--{way}-trace": (f"--{way} {shlex.quote(link or '')}" if link else "") for way in ("up", "down")}
         return lines.get(before, "")
     if command in OF_NETS and before == "" and not word.startswith("-") and (command, word) != ("search", "run"):
         beside = f"{word}.net"
         is_no_file = " " in word or "." not in word
         return f"hinge {command} {shlex.quote(beside)}" if os.path.exists(beside) else A_NET * is_no_file
+    if command == "change" and before == "" and link:
+        return f"hinge change NAME {shlex.quote(link)}"
     if command == "search" and re.fullmatch(r"\d+[-,]\d+", word) and not before.startswith("-"):
         return f"--seeds {word}"
     if command == "packets" and " " in word and not before.startswith("-"):
@@ -213,6 +218,8 @@ def advised(command: str, words: Sequence[str], refusal: str) -> str:
     """Returns a refusal for a command line, with the line to type if a word belongs elsewhere."""
     own = words[: words.index("--")] if "--" in words else words
     own = [] if re.search("[:;] write ", refusal) else own  # which says it already
+    if command == "search" and "--" in words and "required: FILE" in refusal:
+        return f"{refusal}; write hinge search {shlex.join([*own, 'run', *words[len(own) :]])}"
     if command == "try" and own and (name := near(own[0])):
         return f"{refusal}; write --preset {name}"
     if line := line_for_word(command, own) or MEANT.get(f"{command} *", "") * ("unrecognized" in refusal):

@@ -5,8 +5,6 @@ default, and HINGETULIP_LIBRARY the library in C. HINGE_LONG=yes tries the long 
 otherwise from this checkout.
 """
 
-from __future__ import annotations
-
 import importlib.util
 import os
 import signal

@@ -29,7 +29,7 @@ def main() -> None:
     arguments = line.parse_args()
     replies = ask(arguments.socket, change=" ".join(arguments.words)).told or []
     for one in replies:
-        show(f"{one.moment / 1e9:.6f} s: {one.line}" + f": {explained(one.line, one.refused)}" * bool(one.refused))
+        show(f"{one.moment / 1e9:.6f} s: {one.line}" + (f": {explained(one.line, one.refused)}" if one.refused else ""))
     if any(one.refused for one in replies):
         sys.stdout.flush()
         sys.exit(CONFIGURATION)

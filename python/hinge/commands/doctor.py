@@ -60,7 +60,7 @@ def first_words() -> Finding:
     """Programs that the first samples of the pages call."""
     packages = {"ping": "iputils-ping", "git": "git", "redis-server": "redis-server"}
     lacking = {name: package for name, package in packages.items() if shutil.which(name) is None}
-    names = [*lacking, *["/etc/hosts (touch it)"] * (not os.path.exists("/etc/hosts"))]
+    names = [*lacking, *(["/etc/hosts (touch it)"] if not os.path.exists("/etc/hosts") else [])]
     return Finding(f"there is no {' and no '.join(names)}", tuple(lacking.values())) if names else Finding()
 
 
@@ -149,8 +149,9 @@ def install(packages: list[str]) -> Optional[str]:
     names = [*dict.fromkeys(packages)]
     own = [name for name in names if name.startswith("python3-") and sys.prefix != sys.base_prefix]
     rest = [name for name in names if name not in own]
-    lines = [f"sudo apt-get install {' '.join(rest)}"] * bool(rest)
-    lines += [f"{sys.executable} -m pip install {' '.join(name.partition('-')[2] for name in own)}"] * bool(own)
+    lines = [f"sudo apt-get install {' '.join(rest)}"] if rest else []
+    if own:
+        lines.append(f"{sys.executable} -m pip install {' '.join(name.partition('-')[2] for name in own)}")
     return "\n  ".join(lines) or None
 
 

@@ -51,7 +51,8 @@ def made(source: Optional[Path], compilers: int) -> Path:
     """Builds and tests the kernel; returns its folder."""
     start = time.monotonic()
     steps = build.Build(source or build.source(), compilers).run()
-    sleep, began = trial.try_hour(next(steps)), time.monotonic()
+    sleep = trial.try_hour(next(steps))
+    began = time.monotonic()
     kernel = next(steps)
     say(f"built in {began - start:.0f} s; it slept for {sleep:.3f} s of simulated time")
     return kernel.folder

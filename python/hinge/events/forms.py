@@ -37,7 +37,8 @@ ENDS = {name: word.ending for name, word in ACTS.items() if word.ending}
 OUTAGE = "[up|down] outage LENGTH [lossy [tcp|udp port N]]"
 PROTOCOLS = {"tcp": 6, "udp": 17}  # by whose ports a cut chooses packets
 HOST = r"([A-Za-z][\w-]*)"
-ACT, ALONE = "|".join(WORDS), "|".join(name for name in ACTS if name != "skew")
+ACT = "|".join(WORDS)
+ALONE = "|".join(name for name in ACTS if name != "skew")
 NET_LINES = (  # what people write of a net, and the line that says it
     (r"((?!nemesis).*) for (\d\S*)", r"\1 \2"),
     (r"(?:after|at) (\S+?)[:,]? (.*)", r"at \1 \2"),

@@ -37,7 +37,8 @@ class FaultCourse:
     def __init__(self) -> None:
         self.spans, self.latest = list[FaultSpan](), list[int]()  # with the latest end up to each
         # Effective faults, joined, from the last one on, and their beginnings as numbers below 0, which ascend.
-        self.stretches, self.begins = list[FaultSpan](), list[int]()
+        self.stretches = list[FaultSpan]()
+        self.begins = list[int]()
 
     def add(self, span: FaultSpan) -> None:
         self.spans.append(span)
@@ -68,7 +69,9 @@ class NetFaults:
     """A net's effective faults, for each way and host."""
 
     def __init__(self, events: Sequence[TimedEvent], places: Sequence[int], idle: Container[int]) -> None:
-        self.events, self.ends, self.courses = events, FaultEnds(events), defaultdict[Key, FaultCourse](FaultCourse)
+        self.events = events
+        self.ends = FaultEnds(events)
+        self.courses = defaultdict[Key, FaultCourse](FaultCourse)
         for place in places:
             if place not in idle and fault_kind(events[place]):
                 for one in events[place].event.of:

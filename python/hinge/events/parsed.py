@@ -46,7 +46,9 @@ def read_length(statement: Statement, form: str) -> int:
 
 def read_act(statement: Statement, net: Description) -> Event:
     """Returns the event on a host."""
-    word, typed, skew = statement.peek(), bare(statement.rest), ""
+    word = statement.peek()
+    typed = bare(statement.rest)
+    skew = ""
     form = f"at TIME {WORDS[word].form}"
     statement.take(form)
     host = net.room(statement, form)

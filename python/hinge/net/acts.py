@@ -116,7 +116,11 @@ class Acts(Ticker):
     ) -> None:
         """`do` carries out an act, except the links' part, and returns the work that remains after its report, if any. Another thread
         may tick, too."""
-        self.planned, self.lines, self.do_act, self.is_of_links, self.beside = acts, lines, do, is_of_links, beside
+        self.planned = acts
+        self.lines = lines
+        self.do_act = do
+        self.is_of_links = is_of_links
+        self.beside = beside
         self.has_nothing = has_nothing
         self.pending: list[tuple[float, PlannedAct]] = []  # by the monotonic clock
         self.asked: queue.SimpleQueue[tuple[list[PlannedAct], queue.SimpleQueue[Done]]] = queue.SimpleQueue()

@@ -180,7 +180,8 @@ class Description:
         self.has_routes = False
 
     def wait(self, statement: Statement) -> None:
-        host, word = self.room(statement, WAIT), statement.take(WAIT)
+        host = self.room(statement, WAIT)
+        word = statement.take(WAIT)
         port = statement.take(WAIT)
         if word != "port" or not is_number(port) or not 1 <= int(port) <= 65535:
             raise statement.wrong(f"{word} {port}", f"no port from 1 to 65535: {WAIT}")
@@ -229,7 +230,9 @@ class Description:
 
     def ports(self) -> dict[tuple[int, str], Port]:
         """Returns the links' ends at switches, by link (from 0) and host."""
-        union, table, last = self.joined_switches(), dict[tuple[int, str], Port](), dict[str, Port]()
+        union = self.joined_switches()
+        table = dict[tuple[int, str], Port]()
+        last = dict[str, Port]()
         for number, link in enumerate(self.links):
             for name in link.ends:
                 switch = link.other(name)

@@ -43,7 +43,10 @@ class Draw:
     """The random choices for one nemesis."""
 
     def __init__(self, seed: int, place: int, budget: Budget) -> None:
-        self.seed, self.stream, self.count, self.budget = seed, STREAM + place, 0, budget
+        self.seed = seed
+        self.stream = STREAM + place
+        self.count = 0
+        self.budget = budget
 
     def below(self, limit: int) -> int:
         self.count += 1
@@ -90,7 +93,7 @@ def placed_hosts(hosts: list[str]) -> dict[str, int]:
 
 
 def cut(net: Description, one: str, *others: str) -> Cut:
-    return Cut(net.ways_between(one, others), " ".join(["cut", one, *["from"] * bool(others), *others]))
+    return Cut(net.ways_between(one, others), " ".join(["cut", one, *(["from"] if others else []), *others]))
 
 
 def cuts(net: Description, are_parted: Callable[[str, str], bool], ones: list[str], hosts: list[str]) -> list[RandomFault]:
@@ -99,7 +102,8 @@ def cuts(net: Description, are_parted: Callable[[str, str], bool], ones: list[st
     for one in ones:
         del rest[one]
         others = [other for other in linked(net, one, rest) if are_parted(one, other)]
-        faults += [cut(net, one, *others)] * bool(others)
+        if others:
+            faults.append(cut(net, one, *others))
     return faults
 
 
@@ -123,7 +127,8 @@ def ring(net: Description, hosts: list[str], draw: Draw) -> list[RandomFault]:
 def majorities(net: Description, hosts: list[str], draw: Draw) -> list[RandomFault]:
     """Cuts links in random order while each host still reaches a majority, counting itself."""
     table: dict[str, set[str]] = {name: set() for name in hosts}
-    spare, places = len(hosts) - (len(hosts) // 2 + 1), placed_hosts(hosts)
+    spare = len(hosts) - (len(hosts) // 2 + 1)
+    places = placed_hosts(hosts)
     for one in draw.shuffled(hosts):
         for two in draw.shuffled([name for name in linked(net, one, places) if name not in table[one]]):
             if len(table[one]) < spare and len(table[two]) < spare:
@@ -180,7 +185,7 @@ def named_hosts(net: Description, statement: Statement, kind: str) -> list[str]:
     least = LEAST.get(kind, 1)
     statement.refuse_twice(items)
     if len(items) < least:
-        raise statement.wrong(kind, f"it takes {least} host{'s' * (least > 1)} or more")
+        raise statement.wrong(kind, f"it takes {least} host{'s' if least > 1 else ''} or more")
     places = placed_hosts(items)
     if kind in LEAST and not any(linked(net, name, places) for name in items):
         raise statement.wrong(
@@ -205,7 +210,8 @@ def read_nemesis(net: Description, statement: Statement) -> Nemesis:
     if kind not in KINDS:
         raise statement.unknown(kind, KINDS, "not a nemesis", f"write one of {', '.join(KINDS)}")
     every, lasting = span_behind(statement, "every"), span_behind(statement, "for")
-    first, until = span_behind(statement, "from", every), span_behind(statement, "until", TimeSpan(LASTING, LASTING)).most
+    first = span_behind(statement, "from", every)
+    until = span_behind(statement, "until", TimeSpan(LASTING, LASTING)).most
     if not 0 < lasting.least <= lasting.most <= every.least:
         raise statement.wrong(
             spelled_ns(lasting.most), f"write more than 0s, and at most {spelled_ns(every.least)}, the least time to the next fault"

@@ -49,7 +49,10 @@ NO_PRIORITY = "the links don't come before other programs, as the system doesn't
 
 class NetInside:
     def __init__(self, order: NetOrder, own_users: bool, outside: Optional[Outside]) -> None:
-        self.order, self.options, self.net, self.own_users = order, order.options, order.net, own_users
+        self.order = order
+        self.options = order.options
+        self.net = order.net
+        self.own_users = own_users
         self.page = Page(2 * len(self.net.links))
         self.processes = Processes(WATCHED if self.net.main or self.options.shell else WATCHED | {signal.SIGINT})
         self.network = this_network()  # of no host
@@ -92,7 +95,9 @@ class NetInside:
         wait. Wrong: hosts know no such act."""
         if self.is_of_links(act):
             return partial(self.see_gone, act.host) if act.word == "kill" else None
-        clock, on_host, linked = clock_number(act.host, self.net.hosts), self.on_host(act.host), self.linked.get(act.host)
+        clock = clock_number(act.host, self.net.hosts)
+        on_host = self.on_host(act.host)
+        linked = self.linked.get(act.host)
         works = dict.fromkeys(("kill", "crash", "restart"), linked.empty if linked else on_host.kill)
         works |= {"stop": on_host.stop, "cont": on_host.cont, "skew": partial(set_clock, clock, act.more)}
         if act.word not in works:
@@ -274,7 +279,9 @@ class NetInside:
         status = self.lasted(link)
         endings = self.ended()
         link.end()
-        counts, drops, unforwarded = self.page.read(), self.rooms.dropped(), self.rooms.unforwarded()
+        counts = self.page.read()
+        drops = self.rooms.dropped()
+        unforwarded = self.rooms.unforwarded()
         ran = NetRan(status, counts, drops, endings, unforwarded, self.acts.done, self.main_moment, self.missing)
         return report_net(self.order, ran, None if is_simulated() else self.waits)
 

@@ -56,7 +56,8 @@ class NetPlan:
         self.acts: list[PlannedAct] = []
         self.host_faults = count(1)
         self.seed, self.draws, self.nemeses = seed, Budget(MOST_DRAWS, "random numbers"), count()
-        self.moments, self.rest = Draw(seed, OF_MOMENTS, self.draws), Budget(MOST_SAID, "events of links and hosts")
+        self.moments = Draw(seed, OF_MOMENTS, self.draws)
+        self.rest = Budget(MOST_SAID, "events of links and hosts")
         for number, link in enumerate(net.links):
             for way, text in enumerate(link.ways):
                 words = link_of(text, link.statement.place, Place.KERNELS)
@@ -188,7 +189,10 @@ class NetPlan:
         fault = next(self.host_faults) if event.ending else 0
         start = PlannedAct(moment, event.word, event.host, fault, event.skew)
         end = moment._replace(ns=moment.ns + event.length)
-        return [start, *[PlannedAct(end, event.ending, event.host, fault)] * (event.ending != "" and event.length < LAST_MOMENT)]
+        return [
+            start,
+            *([PlannedAct(end, event.ending, event.host, fault)] if event.ending != "" and event.length < LAST_MOMENT else []),
+        ]
 
     def judge_ends(self) -> None:
         """Wrong: a heal ends no cut that goes on then, or a cont no stop."""

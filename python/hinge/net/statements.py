@@ -39,7 +39,8 @@ class Statement:
         return Wrong(f"{self.place}: {word!r}: {why}" if word else f"{self.place}: {why}")
 
     def unknown(self, word: str, items: Iterable[str], what: str, otherwise: str = "") -> Wrong:
-        near, line = difflib.get_close_matches(word, items, 1) if not word[:1].isdigit() else [], self.meant()
+        near = difflib.get_close_matches(word, items, 1) if not word[:1].isdigit() else []
+        line = self.meant()
         right = f"write {line}" if line else f"did you mean {near[0]!r}?" if near else otherwise
         return self.wrong(word, f"{what}; {right}" if right else what)
 

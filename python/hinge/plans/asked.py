@@ -39,7 +39,8 @@ class OfRun(Meaning):
     def __init__(self, asked: list[Asked]) -> None:
         super().__init__("the command line", None)
         self.asked = asked
-        self.hosts, self.links = dict.fromkeys(RUN_HOSTS, "host"), [RUN_HOSTS]
+        self.hosts = dict.fromkeys(RUN_HOSTS, "host")
+        self.links = [RUN_HOSTS]
 
     def of(self, *options: str) -> Iterator[Asked]:
         return (one for option in options for one in self.asked if one.option == option)
@@ -79,7 +80,8 @@ class OfRun(Meaning):
             is_line = f"pipe {pipe}" in named
             text = own[0].text if own else getattr(both[0], side) if both and not is_line else ""
             self.words[pipe] = text.split()
-            line, where = self.line_of(pipe, text.split()), own[0].where if own else f"pipe {pipe}"
+            line = self.line_of(pipe, text.split())
+            where = own[0].where if own else f"pipe {pipe}"
             if is_line and line != f"pipe {pipe} config":
                 behind.append((where, line))
             elif not is_line:
@@ -90,12 +92,13 @@ class OfRun(Meaning):
             self.add(where, 0, line)
 
     def fault(self, one: Asked) -> None:
-        chosen, act = CHOSEN.fullmatch(one.text), LINK_ACT.fullmatch(one.text)
+        chosen = CHOSEN.fullmatch(one.text)
+        act = LINK_ACT.fullmatch(one.text)
         if chosen:
             of_way = self.chosen[2 if chosen["way"] == "server > client" else 1]
             of_way.setdefault(chosen["kind"], {})[int(chosen["packet"])] = int(chosen["ms"] or 0)
         elif act:
-            lossy = ["lossy"] * (act["kind"] == "cut")
+            lossy = ["lossy"] if act["kind"] == "cut" else []
             self.link_change(one.where, ns_of(act["at"]), 0, 0, [SIDES[act["way"]], "outage", act["length"], *lossy], 0)
         else:
             raise Unread(f"{one.where}: no fault of a run")

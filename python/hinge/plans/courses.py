@@ -64,7 +64,8 @@ class Course:
 
     def options(self, moment: int, is_past: bool) -> list[LineOptions]:
         """Returns the options from the lines after all changes at a moment, or also before; several in case of doubt."""
-        result, at = list[LineOptions](), bisect_left(self.lines, (moment + 1,))
+        result = list[LineOptions]()
+        at = bisect_left(self.lines, (moment + 1,))
         while at:
             at -= 1
             result.append(options_of(self.lines[at].line)[1])
@@ -93,9 +94,11 @@ class Course:
         for cut, doubt in product(self.cuts, (0, 1)):
             behind = [(port, bisect_left(self.heals[port], cut)) for port in {(), cut.port}]
             ends = [end for port, place in behind for end in heals.get((port, doubt), [])[place : place + 1]]
-            begin, end = cut.moment + (1 - doubt) * cut.doubt, min(cut.end + doubt * cut.doubt, *ends, FOR_EVER)
-            for port in (cut.port, *[ANY] * bool(cut.port)):
-                result[port, not doubt] += [(begin, end)] * (begin < end)
+            begin = cut.moment + (1 - doubt) * cut.doubt
+            end = min(cut.end + doubt * cut.doubt, *ends, FOR_EVER)
+            for port in (cut.port, *([ANY] if cut.port else [])):
+                if begin < end:
+                    result[port, not doubt] += [(begin, end)]
         return result
 
     def is_cut(self, moment: int, port: Port = ()) -> set[bool]:
@@ -115,9 +118,11 @@ class Course:
         is_turn = not is_past and moment in self.turns
         cuts = {False, True} if is_turn else self.is_cut(moment)
         of_ports = {False, bool(self.ports)} if is_turn else self.is_cut(moment, ANY)
-        losses = [{"plr": "1"}] * (True in cuts)
-        losses += [{"plr": LEAST_LOSS}] * (False in cuts and True in of_ports)
-        losses += [{}] * (False in cuts and False in of_ports)
+        losses = [{"plr": "1"}] if True in cuts else []
+        if False in cuts and True in of_ports:
+            losses.append({"plr": LEAST_LOSS})
+        if False in cuts and False in of_ports:
+            losses.append({})
 
         def bare(one: LineOptions) -> LineOptions:
             return one and {key: text for key, text in one.items() if not is_paced or key != "bw"}

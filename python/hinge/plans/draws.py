@@ -35,7 +35,10 @@ class Draws:
 
     def __init__(self, seed: int, way: int, words: list[str], model: str, chosen: Optional[Chosen]) -> None:
         """Follows the link's words, and `gilbert:..` or `list:..`. Chosen packets decide about all losses."""
-        self.seed, self.way, self.model, self.chosen = seed, way, model, chosen
+        self.seed = seed
+        self.way = way
+        self.model = model
+        self.chosen = chosen
         self.copies, self.corruption = (
             chance_of(Fraction(after(words, name).rstrip("%") or 0) / 100) for name in ("duplicate", "corrupt")
         )
@@ -63,7 +66,10 @@ class Draws:
 
     def drawn(self) -> Iterator[tuple[int, int]]:
         """Yields the number and word of each packet that enters, and repeats a packet that is chosen or drawn to be copied."""
-        twice, losses, is_copy, copies = (self.chosen or {}).get("twice", {}), self.losses(), False, count(1)
+        twice = (self.chosen or {}).get("twice", {})
+        losses = self.losses()
+        is_copy = False
+        copies = count(1)
         for number in count(1):
             yield number, next(losses)
             if number in twice:

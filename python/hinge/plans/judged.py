@@ -59,7 +59,8 @@ class Judge(OfHosts):
     def fits(self, target: Target, options: LineOptions, moment: int, is_past: bool, until: int) -> bool:
         """Returns whether a line is requested at a moment. During a hold, which may begin up to another hold, a pipe has the rates
         of the waiting packets, and then the last packet's rate up to its next line."""
-        of, since = self.of[target], self.configured_at.get(target, 0)
+        of = self.of[target]
+        since = self.configured_at.get(target, 0)
         hold = of.hold(until + 1)
         is_paced = target in self.paced or hold is not None and since < hold.end
         return of.fits(options, moment, is_past, is_paced)
@@ -190,7 +191,8 @@ class Judge(OfHosts):
 
     def passed_again(self, moment: int, pipe: Target, number: str) -> None:
         """The second pass of the packet that left first on its way has the drawn or chosen delay."""
-        delay, way = self.delay(pipe) // MS, self.way_of.get(pipe[1])
+        delay = self.delay(pipe) // MS
+        way = self.way_of.get(pipe[1])
         if way in self.meaning.undrawn or way is None and self.meaning.undrawn:
             return
         first = next((place for place, (draws, _) in enumerate(self.left) if way in (None, draws.way + 1)), None)
@@ -208,7 +210,8 @@ class Judge(OfHosts):
 
     def lossless(self, target: Target, pipe: Target, moment: int) -> None:
         """Reports a queue without a loss whose link has one."""
-        lines, own = self.of[pipe].latest(moment), self.of[target].latest(moment)
+        lines = self.of[pipe].latest(moment)
+        own = self.of[target].latest(moment)
         if target[0] != "queue" or not lines or not own or own.place in self.meaning.own_loss or pipe[1] in self.meaning.decided:
             return
         if "plr" in (options_of(lines.line)[1] or {}):
@@ -290,7 +293,7 @@ class Judge(OfHosts):
         yield from (f"{self.meaning.path} {one.text}" for one in self.faults)
         yield from self.remarks
         count = len({one.where for one in self.meaning.events if one.moment <= self.now and "control socket" not in one.where})
-        yield f"{'not ' * bool(self.faults)}as {self.meaning.path} says: {count} lines, {len(self.acts)} acts, {self.packets} packets"
+        yield f"{'not ' if self.faults else ''}as {self.meaning.path} says: {count} lines, {len(self.acts)} acts, {self.packets} packets"
 
     @staticmethod
     def options_text(options: LineOptions) -> str:

@@ -97,7 +97,8 @@ class Meaning:
     def statements(self) -> Iterator[tuple[int, list[str]]]:
         before, first = "", 0
         for number, line in enumerate(lines_in(self.path), 1):
-            first, line = first if before else number, before + line.strip()
+            first = first if before else number
+            line = before + line.strip()
             before = line[:-1] + " " if line.endswith("\\") else ""
             if not before and line and not line.startswith("#"):
                 yield first, line.split() if line.split()[0] in ("host", "main", "router") else line.partition("#")[0].split()
@@ -253,11 +254,13 @@ class Meaning:
             for key in ("every", "for", "from", "until")
             if key in words
         }
-        hosts, last = words[words.index("of") + 1 :] if "of" in words else list(self.hosts), -1
+        hosts = words[words.index("of") + 1 :] if "of" in words else list(self.hosts)
+        last = -1
         until = times.get("until", [3600 * 10**9])[-1]
         while self.drawn:
             _, at, kind, *rest = self.drawn[0].split()
-            moment, span = ns_of(at), times["every"] if last >= 0 else times.get("from", times["every"])
+            moment = ns_of(at)
+            span = times["every"] if last >= 0 else times.get("from", times["every"])
             is_next = span[0] <= moment - max(last, 0) <= span[-1] or moment == last
             is_fit = kind == NEMESES.get(words[0], "cut") and set(rest[:-1]) - {"from"} <= set(hosts) | (
                 {*self.hosts} if kind == "cut" else set()

@@ -1,9 +1,8 @@
-"""The plan for the host hinge-link, as text with a line for each item, whose forms hosts/link/plan.c lists. This module reads files, and
-needs no other system call.
+"""The plan for the host hinge-link, as text with a line for each item, whose forms hosts/link/plan.c lists. This module reads
+files, and needs no other system call.
 
 WAY 0 is up, from the client through pipe 1, and WAY 1 is down, from the server through pipe 2. A second link uses ways 2 and 3 and
-pipes 3 and 4, and so on. The words for a link always call its pipes 1 and 2.
-"""
+pipes 3 and 4, and so on. The words for a link always call its pipes 1 and 2."""
 
 from __future__ import annotations
 
@@ -139,8 +138,7 @@ class Plan:
     def refuse_unlost(loss: str, queues: set[Target]) -> None:
         if float(loss) and queues:
             raise Wrong(
-                "the link's loss isn't that of a queue, to which a rule sends packets:"
-                f" write `plr {loss}`, or `plr 0`, in the queue's line"
+                f"the link's loss isn't that of a queue, to which a rule sends packets: write `plr {loss}`, or `plr 0`, in the queue's line"
             )
 
     def extra(self, way: int, extra: Extra) -> None:
@@ -168,7 +166,7 @@ class Plan:
 
     def note(self, option: str, number: int, line: str) -> None:
         text = bare(line) if self.is_noted else ""
-        self.asked.write(f"remark asked,{option},{number},{text}\n" * bool(text))
+        self.asked.write((f"remark asked,{option},{number},{text}\n" if text else ""))
 
     def faults(self, path: str, names: Iterable[str], is_net: bool = False) -> None:
         """Adds the faults in a file, which then decide all losses. `names` are the names of the ways. Wrong: a line is no fault
@@ -195,14 +193,10 @@ class Plan:
         from hinge.fault_lines import CUT, HOLD, spelled as spelled_time
 
         if act.kind not in (CUT, HOLD) or act.of not in names:
-            hint = (
-                f"write `at {spelled_time(act.moment)} cut {names[0]} 2s` or `hold`"
-                if names
-                else "write it as a line `at` of the net"
-            )
-            raise ValueError(f"{path}: '{act}': no cut or hold of a link; {hint}")
+            right = f"`at {spelled_time(act.moment)} cut {names[0]} 2s` or `hold`" if names else "it as a line `at` of the net"
+            raise ValueError(f"{path}: '{act}': no cut or hold of a link; write {right}")
         way = "up" if act.of == names[0] else "down"
-        event = link_event(f"{way} outage {spelled_time(act.seconds)}{' lossy' * (act.kind == CUT)}", path)
+        event = link_event(f"{way} outage {spelled_time(act.seconds)}{' lossy' if act.kind == CUT else ''}", path)
         self.happen(event, round(act.moment * SECOND), str(act))
 
     def faults_of(self, way: int, faults: Sequence[Fault]) -> None:
@@ -219,7 +213,7 @@ class Plan:
         packets = {kind: [fault.packet for fault in faults if fault.kind == kind] for kind in (IS_LOST, IS_TWICE)}
         late = {fault.packet: fault.ms for fault in faults if fault.kind == IS_LATE}
         extra, pipes = self.extras.get(way, (Extra(), []))
-        delays = sorted({*late.values(), *[0] * (not pipes)} if late else ())
+        delays = sorted({*late.values(), *([0] if not pipes else [])} if late else ())
         pipe_of = dict(zip(delays, self.second_pipes(delays)))
         self.extras[way] = extra, [*pipes, *pipe_of.values()]
         self.decided[way] = "faults"
@@ -296,7 +290,7 @@ class Plan:
         self.refuse_unlost(self.losses.get(way, "0"), {rule.target} & self.silent)
 
     def loss(self, text: str, link: int = 0) -> None:
-        from hinge.run.losses import loss_lines, model_name
+        from hinge.loss import loss_lines, model_name
 
         lines = loss_lines(text, link)
         for first in re.findall(r"(\d+)(?:-\d+)?", text) if "list:" in text else ():
@@ -316,7 +310,8 @@ class Plan:
         others = [
             f"rules send packets to {one.kind} {one.number}" for one in self.mapped.get(pipe - 1, ()) if one != Target("pipe", pipe)
         ]
-        others += ["a mask parts its packets"] * (pipe in self.masks)
+        if pipe in self.masks:
+            others.append("a mask parts its packets")
         if others:
             raise Wrong(f"{others[0]}, which an outage doesn't hold: {hint}")
 
@@ -333,7 +328,8 @@ class Plan:
                 self.refuse_left_out(way, words, event)
                 self.take(words.line(way + 1))
             return [Change(moment, words.line(way + 1)) for way, words in sorted(zip(event.ways, event.links))]
-        pipes, new = sorted(way + 1 for way in event.ways), list[Happening]()
+        pipes = sorted(way + 1 for way in event.ways)
+        new = list[Happening]()
         port = f" {event.port.protocol} {event.port.number}" if event.port else ""
         for pipe in pipes:
             if Target("pipe", pipe) not in self.current:
@@ -398,9 +394,8 @@ class Plan:
     def trace(self, way: int, path: str, bin_ns: Optional[int], lasting: int) -> None:
         """Makes a way's bandwidth follow a file. Wrong: the pipe isn't configured.
 
-        mahimahi's moments apply separately if there is no bin length and the pipe is a single queue. Otherwise they are counted
-        in bins, which repeat for `lasting` ns.
-        """
+        mahimahi's moments apply separately if there is no bin length and the pipe is a single queue. Otherwise they are counted in
+        bins, which repeat for `lasting` ns."""
         line = self.current.get(Target("pipe", way + 1))
         if line is None:
             raise Wrong(f"{path}: pipe {way + 1} isn't configured")
@@ -419,11 +414,11 @@ class Plan:
 
     def bins(self, line: str, path: str, moments: Moments, bin_ns: int, lasting: int) -> None:
         self.has_bins = True
-        rates, period = counted(path, moments, bin_ns, self.longest), moments[-1] * MS
+        rates = counted(path, moments, bin_ns, self.longest)
+        period = moments[-1] * MS
         if len(rates) > 1 and len(rates) * (lasting // period) > MOST_BINS:
             raise Wrong(
-                f"{path}: it has {len(rates)} rates and would begin {lasting // period} times; take a longer --bin, or"
-                " a shorter --trace-for"
+                f"{path}: it has {len(rates)} rates and would begin {lasting // period} times; take a longer --bin, or a shorter --trace-for"
             )
         for base in range(0, lasting, period) if len(rates) > 1 else [0]:
             self.changes.lines += [Change(base + moment, with_bandwidth(line, rate)) for moment, rate in rates]
@@ -449,5 +444,5 @@ class Plan:
         text = "".join(f"{line}\n" for line in front) + self.asked.getvalue()
         for line in self.lines(seed):
             text += f"{line}\n"  # which grows in its place, where a StringIO is copied at its end
-        text += "realtime\n" * realtime + "simulated\n" * in_simulated_time
+        text += "realtime\n" * realtime + ("simulated\n" if in_simulated_time else "")
         return text

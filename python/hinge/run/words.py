@@ -137,7 +137,7 @@ def link_of(text: str, option: str, place: Place = Place.CHANGE) -> LinkWords:
         return of_such_words(text) or read_once(text, place)
     except WordError as wrong:
         whole = corrected(text, place)
-        raise Wrong(f"{option}: {wrong}" + f"; in full: '{whole}'" * (whole not in (None, wrong.right()))) from None
+        raise Wrong(f"{option}: {wrong}" + (f"; in full: '{whole}'" if whole not in (None, wrong.right()) else "")) from None
 
 
 class Target(NamedTuple):

@@ -41,9 +41,8 @@ class SearchSettings(NamedTuple):
 
 
 class RunFiles(NamedTuple):
-    """Settings for a run whose machine a search examines afterwards: extra lines for /proc/pauses, the processes that leave a
-    core, and the transcript's path.
-    """
+    """Settings for a run whose machine a search examines afterwards: extra lines for /proc/pauses, the processes that leave a core,
+    and the transcript's path."""
 
     more: "tuple[str, ...]" = ()  # as in Settings
     cores: str = NO_CORES
@@ -83,10 +82,10 @@ class SummarizedRun(NamedTuple):
             for name, one in servers.items()
             if one and one["by"] == "itself" and one["status"]
         ]
-        return [*ends, *["a second run may differ"] * (self.has_run and self.record.get("repeatable") is False)]
+        return [*ends, *(["a second run may differ"] if self.has_run and self.record.get("repeatable") is False else [])]
 
     def told(self) -> str:
-        void = "void: " * bool(self.record.get("void"))
+        void = "void: " if self.record.get("void") else ""
         return f"{void}{self.name or f'status {self.status}'}: {self.last_line()}".rstrip(": ")
 
     def last_line(self) -> str:

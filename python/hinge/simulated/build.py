@@ -68,7 +68,8 @@ class Build:
     def step(self, what: str, *words: "str | Path", where: Path) -> None:
         """Runs a command. Fault: the command failed; its last lines are printed first."""
         names = {"PATH": os.environ["PATH"], "HOME": str(where), "TMPDIR": str(where), "LC_ALL": "C", "ARCH": "um", **BUILD_VERSION}
-        bar, last = Bar(f"steps of the build ({what})", ABOUT), list[str]()
+        bar = Bar(f"steps of the build ({what})", ABOUT)
+        last = list[str]()
         how: dict[str, Any] = {"cwd": where, "env": names, "stdin": NOTHING, "stdout": PIPE, "stderr": SAME, "errors": "replace"}
         with begun([*map(str, words)], text=True, preexec_fn=begin_group, **how) as process, ExitStack() as behind:
             behind.callback(end_group, process)  # where a signal came

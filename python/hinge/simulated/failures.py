@@ -34,7 +34,8 @@ def shared(file: Path, data: bytes) -> BinaryIO:
         except FileNotFoundError:  # the last run of the text has just removed it
             continue
         fcntl.flock(held, fcntl.LOCK_SH)
-        is_there, text = os.fstat(held.fileno()).st_nlink > 0, held.read(len(data) + 1)
+        is_there = os.fstat(held.fileno()).st_nlink > 0
+        text = held.read(len(data) + 1)
         if is_there and text == data:
             return held
         held.close()
@@ -102,7 +103,8 @@ def failure_command(words: "list[str]", command: str) -> "list[str]":
 @contextmanager
 def repeated_net(words: "list[str]") -> "Iterator[list[str]]":
     """Yields the same for `hinge net`. The net is in the file, and is written beside the file for the duration."""
-    lines, result = failure_in(words).get(NET_KEY), failure_command(words, "net")
+    lines = failure_in(words).get(NET_KEY)
+    result = failure_command(words, "net")
     if not isinstance(lines, list):
         yield result
         return

@@ -43,9 +43,9 @@ def of_files(before: "dict[str, Any]", present: "dict[str, Any]") -> str:
     unsure = [name for name in {**one, **other} if [] in (one.get(name), other.get(name))]
     names = [name for name in {**one, **other} if one.get(name) != other.get(name) and name not in unsure]
     first, *more = [*names, *unsure] or [""]
-    others = f" and {len(more)} more files" * bool(more)
+    others = f" and {len(more)} more files" if more else ""
     if not names:
-        return f"; the same {len(one) - len(unsure)} files" + f", beside {first}{others} that a run changed" * bool(unsure)
+        return f"; the same {len(one) - len(unsure)} files" + (f", beside {first}{others} that a run changed" if unsure else "")
     why = (
         "other"
         if first in one and first in other

@@ -58,7 +58,8 @@ class NetRun(NamedTuple):
             texts += [str(self.rooms.index(wait.host)), str(wait.port), nanoseconds(wait.lasting), kind]
         texts.append(str(len(order.made.acts)))
         for act in order.made.acts:
-            base, host = "main" if act.moment.of_main else "start", str(self.rooms.index(act.host))
+            base = "main" if act.moment.of_main else "start"
+            host = str(self.rooms.index(act.host))
             texts += [base, str(act.moment.ns), act.word, ACTS[act.word].ending, host, str(act.fault), act.more]
         return texts
 
@@ -103,7 +104,8 @@ class NetRun(NamedTuple):
             tell(line)
         drops = ends.drops({name: all_dropped(place) for name, place in places.items()})
         rest = {name: some for name, place in places.items() if (some := unforwarded(place))}
-        status, counts = verdict.status if verdict else TERMINATED, page_of(folder).read()
+        status = verdict.status if verdict else TERMINATED
+        counts = page_of(folder).read()
         ran = NetRan(status, counts, drops, result.endings, rest, result.acts, result.main, result.missing)
         return report_net(self.order._replace(options=self.order.options.but(transcript=None, json=str(summary))), ran, None, tell)
 

@@ -68,7 +68,8 @@ def portable_name(path: str) -> str:
 
 def files_record(folder: Path, root: Optional[str] = None) -> "dict[str, Any]":
     """Returns the summary's `files`, in the order of opening, and `absent`."""
-    paths, start = dict.fromkeys(paths_told(folder, root)), os.stat(folder / "job").st_ctime_ns
+    paths = dict.fromkeys(paths_told(folder, root))
+    start = os.stat(folder / "job").st_ctime_ns
     records = ((path, file_record(f"{root or ''}{path}", start)) for path, is_there in paths if is_there)
     files = {portable_name(path): record for path, record in records if record is not None}
     return {"files": files, "absent": [portable_name(path) for path, is_there in paths if not is_there]}

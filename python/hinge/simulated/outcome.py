@@ -27,12 +27,12 @@ class RunOutcome(NamedTuple):
 
     @classmethod
     def of(cls, machine: Machine, endings: MachineEnded, settings: Settings) -> RunOutcome:
-        real, interrupts, hides = machine.real(), machine.interrupts, machine.hides_the_processor
-        given, pauses, random = (
-            machine.job.given(),
-            pauses_made(machine.folder / "paused"),
-            random_programs(machine.folder, machine.root),
-        )
+        real = machine.real()
+        interrupts = machine.interrupts
+        hides = machine.hides_the_processor
+        given = machine.job.given()
+        pauses = pauses_made(machine.folder / "paused")
+        random = random_programs(machine.folder, machine.root)
         return cls(endings, real, interrupts.count, interrupts.longest, hides, settings, given, pauses, random)
 
     def differences(self) -> Iterator[str]:
@@ -71,7 +71,8 @@ class RunOutcome(NamedTuple):
     def pauses_record(self) -> "dict[str, Any]":
         if not (self.pauses and self.settings.pauses):
             return {}
-        asked, first = self.settings.pauses, [one._asdict() for one in self.pauses.first]
+        asked = self.settings.pauses
+        first = [one._asdict() for one in self.pauses.first]
         counts = {"calls": self.pauses.calls, "count": self.pauses.amount, "time": self.pauses.time / 1e9}
         return {"pauses": {"asked": asked.asked, **counts, "first": first}}
 

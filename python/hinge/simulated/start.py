@@ -59,7 +59,8 @@ InRooms = Union[LinkRun, "NetRun"]
 def settings_of(options: SimulatedOptions, seed: int) -> Settings:
     at = date(BEGINNING) if options.at is None else options.at
     memory, cpu = options.memory or size(MEMORY), options.cpu or "stable"
-    scratch, pauses = options.scratch or options.twice, pauses_of(options.pauses, seed)
+    scratch = options.scratch or options.twice
+    pauses = pauses_of(options.pauses, seed)
     cores = OF_DEADLOCK if has_debugger() else NO_CORES
     return Settings(seed, at, memory, cpu, scratch, pauses, limit_in_ns(options), root_of(options), cores=cores)
 
@@ -191,7 +192,9 @@ def summary_of(machine: Machine) -> "dict[str, Any]":
 
 def reported(machine: Machine, plan: Planned, kernel: Kernel, files: bool, is_told: bool = True) -> Reported:
     """Reports a run, unless it should be quiet. Missing: the kernel doesn't support pauses, or the machine failed early."""
-    options, settings, endings = plan.options, plan.settings, machine.ended()
+    options = plan.options
+    settings = plan.settings
+    endings = machine.ended()
     if (machine.folder / "fault").exists() or (endings is None and machine.cut is None):
         raise machine.fault()
     rooms = plan.rooms if (machine.folder / "ran").exists() else None
@@ -243,7 +246,9 @@ def run_simulated(options: SimulatedOptions) -> int:
     refuse_outside(options, has_terminal())
     if options.like:
         earlier(options.like)  # so that a wrong one is told before a machine is made
-    limit, kernel, plan = real_limit_of(options), usable_kernel(), planned(options)
+    limit = real_limit_of(options)
+    kernel = usable_kernel()
+    plan = planned(options)
     machines = list[Machine]()
     with scratch() as place, ending(machines) as came:
         read_input(place / "in")

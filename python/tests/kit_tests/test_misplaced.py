@@ -1,8 +1,6 @@
 """Words of a command line that belong elsewhere, each answered by the line to type: files of another kind, options of older
 versions, and what people try first."""
 
-from __future__ import annotations
-
 import re
 import shlex
 import shutil
@@ -18,6 +16,7 @@ FRONT = {  # of a file of each kind, which comments and blank lines may precede
     "capture": b"\xd4\xc3\xb2\xa1",
     "picture": b"\x89PNG\r\n\x1a\n\0",
     "program": b"#!/bin/sh",
+    "python": b"# a test\nimport socket\n",
     "history": b"dummynet-history,3",
     "report": b"event,row,flow,packet",
     "packets": b"moment,target",
@@ -87,6 +86,9 @@ look -- --quiet  =>  ./--quiet: No such file or directory
 try 10Mbit/s  =>  write hinge run --link '10Mbit/s 20ms' -- COMMAND, as hinge try takes presets alone
 run --link none -- true  =>  'none': no word of a link; write bw 0, which slows nothing
 docs tc  =>  no page 'tc'; write hinge docs LINKS
+change 20ms  =>  WORDS is missing, as in `hinge change link.socket up 1Mbit/s 50ms`; write hinge change NAME 20ms
+search --seeds 1-3 -- true  =>  write hinge search --seeds 1-3 run -- true
+net FILE.python  =>  FILE.python is a Python program; write hinge run --link 20ms -- python3 FILE.python
 change FILE.net 20ms  =>  Connection refused; FILE.net is a network; write hinge up FILE.net, and hinge change FILE WORDS
 --debug run --link 20ms -- true  =>  no command '--debug'; write hinge run --link 20ms -- true
 --not-of-dummynet audit FILE.report  =>  dummynet: FILE.report is a replay's report; write hinge look PACKETS FILE.report
@@ -108,6 +110,11 @@ run --preset dsl --loss 1% -- true  =>  write --up '384Kbit/s 25ms queue 10 loss
 run --up 20ms --loss 1% -- true  =>  write --up '20ms loss 1%' --down 'loss 1%'
 run --server python3 -m http.server -- true  =>  write --server 'python3 -m http.server'
 run --seeds 1-9 -- true  =>  write hinge search --seeds 1-9 run, with the other words behind it
+run --seeds many -- true  =>  write hinge search --seeds 1-100 run, with the other words behind it
+run --trace down:FILE.late -- true  =>  --trace: write --down-trace FILE.late
+run --outage up:2s -- true  =>  write --timeline FILE with a line `5s up outage 2s` in FILE
+run --outage long -- true  =>  write --timeline FILE with a line `5s outage 1s` in FILE
+run --both up:20ms -- true  =>  --both: write --up 20ms
 run --outside=yes -- true  =>  argument --outside: it has no value; leave out 'yes'
 run --wait 5s -- true  =>  did you mean --server-wait?
 run --link 'delay 20 ms, loss 1 %' -- true  =>  in full: 'delay 20ms loss 1%'
@@ -175,7 +182,7 @@ class Misplaced(unittest.TestCase):
         lists = {"act": "at 1s up 5ms", "late": "1s: 5ms", "lost": "client -> server packet 3 dropped", "script": "#!/bin/sh"}
         nets = {f"{name}.net": line for name, line in nets.items()}
         for name, line in {**nets, **{f"FILE.{name}": line for name, line in lists.items()}}.items():
-            (folder() / name).write_text("host a sleep 9\nhost b sleep 9\nlink a b 1ms\n" * name.endswith(".net") + line)
+            (folder() / name).write_text(("host a sleep 9\nhost b sleep 9\nlink a b 1ms\n" if name.endswith(".net") else "") + line)
         shutil.copy(MIXED, folder() / "FILE.capture")
 
     def test_each_kind_is_known_by_its_front(self) -> None:

@@ -1,7 +1,5 @@
 """The host between two sockets: packets, the map, losses, changes, outages and the end."""
 
-from __future__ import annotations
-
 import fcntl
 import select
 import signal
@@ -10,11 +8,27 @@ import struct
 import time
 import unittest
 
-from linked import AT_ONCE, SEEDS, Ended, Linked, audited_as_lawful, found, ip4, ip6, needs_host, stopped, until, with_sigterm
+from linked import (
+    AT_ONCE,
+    CLIENT,
+    SEEDS,
+    SERVER,
+    Ended,
+    Linked,
+    audited_as_lawful,
+    found,
+    ip4,
+    ip6,
+    needs_host,
+    plan_of,
+    stopped,
+    udp,
+    until,
+    with_sigterm,
+)
 from hinge.captures.random_words import word
 from hinge.loss import LOST, GilbertElliott
 from hinge.run.page import ENDED_WELL
-from link_packets import CLIENT, SERVER, plan_of, udp
 
 
 @needs_host
@@ -133,9 +147,8 @@ class OfLosses(unittest.TestCase):
         self.assertEqual((got, link.end().counts.ways[0]["lost"]), (list(range(1, 600, 2)), 300))
 
     def test_words_and_losses_are_those_of_the_models(self) -> None:
-        """hinge.captures.random_words draws the words of a loss rate, and hinge.loss decides by the same seed which packets a
-        burst loses.
-        """
+        """hinge.captures.random_words draws the words of a loss rate, and hinge.loss decides by the same seed which packets a burst
+        loses."""
         link = Linked("seed 0 9\nseed 1 9\nline pipe 1 config plr 0.3\nline pipe 2 config\n")
         for number in range(30):
             link.near.send(udp(1))
@@ -155,8 +168,7 @@ class OfLosses(unittest.TestCase):
 
     def test_the_share_of_losses_is_that_of_the_model(self) -> None:
         """With 0.25 to the bad state and 0.75 to the good one, a quarter of all packets is lost, within 0.034: five standard
-        deviations for 4,000 separate draws.
-        """
+        deviations for 4,000 separate draws."""
         plan = plan_of("pipe 1 config")
         plan.loss("gilbert:0.25,0.75")
         link = Linked(plan.text(3))

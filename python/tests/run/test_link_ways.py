@@ -1,7 +1,5 @@
 """A link's words mean the same in options, nets, timelines, changes, marks of tests, hingetulip.aio and lines."""
 
-from __future__ import annotations
-
 import re
 import tempfile
 from pathlib import Path
@@ -197,7 +195,7 @@ def cases() -> Iterator[tuple[str, str, str]]:
     for name in WAYS:
         lacks = {"aio": "no packet has a checksum here, which would discard it; write loss 1%", "a mark": NONE}
         why = OF_A_RUN if name in CHANGE or name == "aio, a change" else lacks.get(name, "")
-        yield name, "corrupt 1%", f"'corrupt{' 1%' * (name == 'aio')}': {why}" if why else ""
+        yield name, "corrupt 1%", f"'corrupt{' 1%' if name == 'aio' else ''}': {why}" if why else ""
     yield from [("--down", "# nothing", f"'# nothing': {NO_WORDS}; an open one is 'bw 0'")]
     yield from (("aio, a change", text, NO_WORDS) for text in ("", "# nothing"))
 

@@ -1,7 +1,5 @@
 """Acts on the hosts of `hinge net`, and moments counted from the main command's start."""
 
-from __future__ import annotations
-
 import os
 import subprocess
 import sys
@@ -100,9 +98,8 @@ class OfHosts(InAFolder):
         self.assertEqual([one["words"] for one in self.summary()["acts"]], words)
 
     def test_a_stop_of_the_first_process_ends_nothing(self) -> None:
-        """The first process is stopped for longer than its period of a second. Meanwhile the links carry out their acts, and
-        report each moment.
-        """
+        """The first process is stopped for longer than its period of a second. Meanwhile the links carry out their acts, and report
+        each moment."""
         self.file.write_text(
             f"main a echo begun > {self.folder}/told; sleep 2; echo ended\nhost b exec sleep 99\n{TWO.replace('c', 'b')}"
             "at 500ms stop b 300ms\n"
@@ -212,7 +209,8 @@ class OfMoments(InAFolder):
         done = self.net(self.SLOW + "at 0s cut a 1h\n")
         self.assertNotIn("before the main", done.stderr)
         self.assertEqual((sum(way["lost"] for way in self.summary()["ways"]) > 0, done.returncode), (True, 1))
-        cuts, begun = found(r"^r,advanced,(\d+)\nc,0,configure,pipe 1 .* plr 1$", self.history()), self.summary()["main"]
+        cuts = found(r"^r,advanced,(\d+)\nc,0,configure,pipe 1 .* plr 1$", self.history())
+        begun = self.summary()["main"]
         self.assertEqual(([int(one) for one in cuts], begun > 10**9), ([begun], True))
 
     def test_a_cut_that_begins_in_another_doesnt_end_it(self) -> None:

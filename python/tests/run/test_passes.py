@@ -1,7 +1,5 @@
 """Jitter and duplicates: a second pass through a pipe with a drawn delay, and a second submission."""
 
-from __future__ import annotations
-
 import shutil
 import tempfile
 import unittest
@@ -93,7 +91,8 @@ class OfPasses(unittest.TestCase):
         link = Linked(f"{SEEDS}line pipe 1 config\nline pipe {FIRST} config\njitter 0 {FIRST} 1 7\ncorrupt 0 {CERTAIN // 4} 7\n")
         wanted, got = [udp(0)[:20]], list[bytes]()
         for number in range(1, COUNT):
-            packet, bit = bytearray(udp(number)), word(7, number + 1, 1 + OF_BITS) % 640
+            packet = bytearray(udp(number))
+            bit = word(7, number + 1, 1 + OF_BITS) % 640
             packet[-1 - bit // 8] ^= (word(7, number + 1, 1 + OF_CORRUPTION) < CERTAIN // 4) << bit % 8
             wanted.append(bytes(packet))
         for number in range(COUNT):
@@ -107,7 +106,7 @@ class OfPasses(unittest.TestCase):
 
     def test_a_second_pipe_that_was_deleted(self) -> None:
         link = Linked(
-            f"{SEEDS}line pipe 1 config delay 20\nline pipe {FIRST} config\njitter 0 {FIRST} 1 7\nat 0 pipe delete" f" {FIRST}\n"
+            f"{SEEDS}line pipe 1 config delay 20\nline pipe {FIRST} config\njitter 0 {FIRST} 1 7\nat 0 pipe delete {FIRST}\n"
         )
         link.near.send(udp(1))
         until(lambda: link.page.read().ways[0]["no_target"] == 1)
