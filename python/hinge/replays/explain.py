@@ -3,14 +3,16 @@
 from __future__ import annotations
 
 from dataclasses import dataclass
-from itertools import chain, islice, takewhile
+from itertools import chain, takewhile
 from typing import Callable, Optional
 
+from hinge.arguments import TABLE_FLOWS
 from hinge.command import ROWS, Fault
 from hinge.configurations.configured import Pipe, Queue, Setting
-from hinge.lazy import few as np
+from hinge.lazy import Integers, few as np
 from hinge.loss import KEPT, LOST as LOST_WORD
-from hinge.replays.columns import GREATEST
+from hinge.replays.columns import GREATEST, Lazily
+from hinge.replays.groups import Groups
 from hinge.replays.link_order import LinkOrder, WaitedFor
 from hinge.replays.links import BITS_NS, UNKNOWN, Parts, Spell, bandwidth_of, delay_of
 from hinge.replays.replay import FULL, HELD, LOST, NONE, OUT
@@ -170,30 +172,41 @@ class Explainer:
         if delay == 0:
             return "The link was free, so its transmission began at once."
         wait = self.order.wait(place)
-        if sum(wait.costs) != delay:
-            raise self.parts.another(f"row {place + 1} would have waited {ms(sum(wait.costs))}")
+        if (total := int(wait.costs.sum())) != delay:
+            raise self.parts.another(f"row {place + 1} would have waited {ms(total)}")
         return f"It waited {ms(delay)} for {self.link_name(place)}: {'; '.join(self.waited_for(place, wait))}."
 
     def waited_for(self, place: int, wait: WaitedFor) -> list[str]:
-        """Returns the packets that a packet waited for, by flow, with each group's cost in time."""
-        lines: list[str] = []
+        """Returns a line with the cost in time for each flow ahead of a packet; a last line sums up small flows among many."""
+        lines, places, costs, own = list[str](), wait.places, wait.costs, int(self.replay.flow[place])
         if wait.first_was_sending:
-            first = int(wait.places[0])
+            first = int(places[0])
             whose = f" of {self.flow_name(first)}" if self.parts.is_shared[place] else ""
             before = f"row {first + 1}{whose}, which was under transmission, had been sent"
-            lines.append(f"{ms(wait.costs[0])} until {f'the end of {self.outage(first)}' if self.is_outage(first) else before}")
-        columns = (column[wait.places].tolist() for column in (self.packets.five_tuple, self.packets.word, self.replay.flow))
-        waited, flows = zip(wait.places.tolist(), wait.costs, *columns), dict[int, dict[int, int]]()
-        for one, cost, five_tuple, word, flow in islice(waited, int(wait.first_was_sending), None):
+            lines.append(f"{ms(int(costs[0]))} until {f'the end of {self.outage(first)}' if self.is_outage(first) else before}")
+            places, costs = places[1:], costs[1:]
+        places, costs, others = self.largest(place, places, costs)
+        columns = (column[places].tolist() for column in (self.packets.five_tuple, self.packets.word, self.replay.flow))
+        flows: dict[int, dict[int, int]] = {}
+        for one, cost, five_tuple, word, flow in zip(places.tolist(), costs.tolist(), *columns):
             if five_tuple == self.parts.of_nobody and word == KEPT:
                 lines.append(f"{ms(cost)} for {self.outage(one)}")
             else:
                 flows.setdefault(flow, {})[one] = cost
-        own = int(self.replay.flow[place])
-        return [
-            *lines,
-            *(self.group(place, flow == own, flows[flow]) for flow in sorted(flows, key=lambda flow: (flow != own, flow))),
-        ]
+        numbers = sorted(flows, key=lambda flow: (flow != own, flow))
+        return [*lines, *(self.group(place, flow == own, flows[flow]) for flow in numbers), *others]
+
+    def largest(self, place: int, places: Integers, costs: Integers) -> tuple[Integers, Integers, list[str]]:
+        """Returns the packets and costs for this flow and the largest flows, as many as a table lists, and a line about the rest."""
+        if len(places) <= TABLE_FLOWS or not self.parts.is_shared[place]:
+            return places, costs, []
+        flow, own = self.replay.flow[places], self.replay.flow[place]
+        flows = Groups(flow, Lazily(int(flow.max()) + 1, str)).largest(np.where(flow == own, GREATEST, costs), TABLE_FLOWS)
+        if not flows.has_rest:
+            return places, costs, []
+        is_told = flows.of < TABLE_FLOWS
+        rest = costs[~is_told]
+        return places[is_told], costs[is_told], [f"{ms(int(rest.sum()))} for {packets(len(rest))} of {flows.names[-1]}"]
 
     def group(self, place: int, is_own: bool, costs: dict[int, int]) -> str:
         """Describes one flow's packets ahead of a packet, each with its cost."""

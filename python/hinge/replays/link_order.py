@@ -21,7 +21,7 @@ class WaitedFor:
     """
 
     places: Integers
-    costs: list[int]
+    costs: Integers
     first_was_sending: bool
 
 
@@ -82,8 +82,10 @@ class LinkOrder:
         own = int(np.searchsorted(link.starts, replay.start[place], side="left"))
         rest = link.starts[first - 1] + transmission[link.places[first - 1]] - at if first else 0
         places = link.places[first - int(rest > 0) : own]
-        costs = transmission[places].tolist()
-        return WaitedFor(places, [int(rest), *costs[1:]] if rest > 0 else costs, bool(rest > 0))
+        costs = transmission[places]
+        if rest > 0:
+            costs[0] = rest
+        return WaitedFor(places, costs, bool(rest > 0))
 
     def before(self, place: int) -> int:
         """Returns the packet that left its link before this packet, or UNKNOWN."""

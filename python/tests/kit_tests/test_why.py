@@ -287,6 +287,17 @@ class Command(unittest.TestCase):
         ) in texts[2]
         assert f"until row {2}, which" in texts[3]
 
+    def test_of_many_flows_the_smaller_are_summed_up(self) -> None:
+        """A packet behind another one, behind 19 flows with 500 bytes each at 8 Mbit/s, and behind 40 flows with 1,000."""
+        config = write("many.config", "pipe 1 config bw 8Mbit/s\nqueue 1 config pipe 1 mask all\n")
+        lengths = [1000, *[500] * 19, *[1000] * 40, 1500]
+        lines = [f"0,queue,1,10.0.0.{row},10.0.1.0,17,1,2,{length},9" for row, length in enumerate(lengths, 1)]
+        packets = write("many.csv", "\n".join([HEADER, *lines]) + "\n")
+        text = run("why", 61, config, packets, replay("many", config, packets)).stdout
+        told = [f"1.000000 ms for 1 packet of flow {row - 1} (queue 1, weight 1): row {row}" for row in range(21, 61)]
+        assert "; ".join([*told, "9.500000 ms for 19 packets of 19 others. Its transmission"]) in text
+        assert "It waited 50.500000 ms for pipe 1, which its queues share: 1.000000 ms until row 1 of" in text
+
     def test_another_configuration_is_noticed(self) -> None:
         config, packets, report = late()
         other = write("other.config", config.read_text().replace("delay 7", "delay 8"))
