@@ -9,6 +9,7 @@ from hinge.arguments import PICTURE_FLOWS
 from hinge.lazy import Integers, Reals, np
 from hinge.pictures.drawing import DASHED, DENSE, DOTTED, MIXED, SOLID, Band, Bars, Drawing, Item, Key, Line, Panel, Points
 from hinge.pictures.series import CAUSES, NS_PER_MS, NS_PER_S, Flow, Series, Steps, spread
+from hinge.pictures.settings import A_FLOW
 from hinge.replays.groups import order_of
 from hinge.replays.remarks import LEAST_LATE
 from hinge.replays.replay import EVENT_NAMES
@@ -67,13 +68,9 @@ class Panels:
             RESTS[rests.index(number) % len(RESTS)] if flow.is_rest else COLORS[number]
             for number, flow in enumerate(flows_in_time.flows)
         ]
-        pipes = sorted(
-            {*flows_in_time.carried, *flows_in_time.capacities, *flows_in_time.waiting},
-            key=lambda name: (name.split()[0], int(name.split()[1].rstrip(","))),
-        )
-        self.pipes = {
-            name: PIPES[number % len(PIPES)] for number, name in enumerate(dict.fromkeys(name.partition(",")[0] for name in pipes))
-        }
+        names = {*(name.removesuffix(A_FLOW) for name in flows_in_time.capacities), *flows_in_time.carried, *flows_in_time.waiting}
+        order = sorted(names, key=lambda name: (name.split()[0], len(name), name))
+        self.pipes = {name: PIPES[number % len(PIPES)] for number, name in enumerate(order)}
 
     def flows(self) -> Iterator[tuple[int, Flow, str]]:
         """Yields the flows with numbers and colors, the largest on top and the rest at the bottom."""
@@ -97,7 +94,7 @@ class Panels:
         for name, (moments, rates) in result.capacities.items():
             text = f"{name}: {range_of(rates, 'Mbit/s')}"
             if np.nanmax(rates) <= MOST_ABOVE * most:
-                color, _ = self.pipes[name.partition(",")[0]]
+                color, _ = self.pipes[name.removesuffix(A_FLOW)]
                 items.append(Line(f"capacity of {text}", moments, rates, color, width=1.2, dash=DOTTED, is_behind=True))
             else:
                 notes.append(f"capacity of {text}, above this panel")

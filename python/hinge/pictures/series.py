@@ -5,9 +5,10 @@ from __future__ import annotations
 from dataclasses import dataclass, field
 from typing import Iterable, Iterator, Optional
 
+from hinge.arguments import PICTURE_FLOWS
 from hinge.border.terminal import several
 from hinge.lazy import Integers, Reals, np
-from hinge.pictures.settings import Limits, capacities, limits, pipe_names
+from hinge.pictures.settings import A_FLOW, Limits, capacities, limits, pipe_names
 from hinge.replays.bounds import Bounded
 from hinge.replays.groups import Groups, group
 from hinge.replays.remarks import Lateness
@@ -19,6 +20,7 @@ FEWEST_STEPS = 20
 PACKETS_A_STEP = 40  # so that one packet more or less in a step doesn't show
 PACKETS_OF_LARGEST = 10  # of them those of the largest flow
 MOST_RANKS = 2_000  # of a distribution
+MOST_PIPES = PICTURE_FLOWS  # each with its lines
 CAUSES = (LOST, FULL, NONE)
 
 
@@ -204,6 +206,14 @@ def shared_pipes(replay: Replay, groups: Groups, pipes: dict[str, str]) -> dict[
     }
 
 
+def small_pipes(replay: Replay, targets: Groups, pipes: dict[str, str], bandwidths: Iterable[str]) -> set[str]:
+    """Returns the pipes beyond the largest ones, which a picture sums up."""
+    sizes = dict.fromkeys((name.removesuffix(A_FLOW) for name in bandwidths), 0.0)
+    for name, size in zip(targets.names, np.bincount(targets.of, weights=replay.packets.length).tolist()):
+        sizes[pipes.get(name, name)] = sizes.get(pipes.get(name, name), 0) + size
+    return {*sorted(sizes, key=sizes.__getitem__, reverse=True)[MOST_PIPES:]}
+
+
 def by_pipe(replay: Replay, pipes: dict[str, str]) -> dict[str, Integers]:
     """Returns the places of the packets for each pipe, or queue with an unknown pipe."""
     table: dict[str, list[Integers]] = {}
@@ -252,12 +262,16 @@ def series(
     bounds: Iterable[Bounded] = (),
 ) -> Series:
     steps, changes = Steps(step_ns, span), list(changes)
-    pipes = pipe_names(changes)
+    pipes, bandwidths, targets = pipe_names(changes), capacities(changes, span), group(replay, "target")
+    small = small_pipes(replay, targets, pipes, bandwidths)
+    pipes |= {name: f"the other {len(small):,} pipes" for name in targets.names if pipes.get(name, name) in small}
     flows = [flow_series(replay, name, places, is_rest, steps) for name, places, is_rest in named_places(replay, groups, pipes)]
     drops = {EVENT_NAMES[cause]: steps.counts(replay.at[replay.event == cause]) for cause in CAUSES}
-    queues = {name: waiting(replay, places) for name, places in group(replay, "target").places()}
+    drawn = targets.largest(replay.packets.length, MOST_PIPES) if len(targets.names) > MOST_PIPES else targets
+    queues = {name: waiting(replay, places) for name, places in drawn.places()}
     common = shared_pipes(replay, groups, pipes)
     rates_out = {name: carried(replay, places, steps) for name, places in common.items()}
     rates_in = {name: offered(replay, places, steps) for name, places in common.items()}
-    settings = capacities(changes, span), limits(changes, span)
-    return Series(replay, steps, flows, drops, queues, rates_out, rates_in, *settings, lateness or {}, list(bounds))
+    settings = {name: rates for name, rates in bandwidths.items() if name.removesuffix(A_FLOW) not in small}, limits(changes, span)
+    of_pipes = [bound for bound in bounds if bound.name not in small]
+    return Series(replay, steps, flows, drops, queues, rates_out, rates_in, *settings, lateness or {}, of_pipes)

@@ -9,6 +9,8 @@ from hinge.configurations.configured import Limit, Pipe, Queue, setting_of
 from hinge.lazy import Integers, Reals, np
 from hinge.replays.remarks import NS_PER_S
 
+A_FLOW = ", a flow"  # behind the name of a pipe that gives its bandwidth to each flow
+
 
 @dataclass(frozen=True)
 class Limits:
@@ -27,7 +29,7 @@ def capacities(changes: Iterable[tuple[int, str]], span: int) -> dict[str, tuple
         kind, number, setting = setting_of(text)
         if kind == "pipe":
             rate = setting.bw / 10**6 if isinstance(setting, Pipe) and setting.bw else np.nan
-            table.setdefault(f"pipe {number}{', a flow' * ('mask' in text.split())}", []).append((moment, rate))
+            table.setdefault(f"pipe {number}{A_FLOW * ('mask' in text.split())}", []).append((moment, rate))
     steps = {name: [*points, (max(span, points[-1][0]), points[-1][1])] for name, points in table.items()}
     return {
         name: (np.array([at for at, _ in points]) / NS_PER_S, np.array([rate for _, rate in points]))

@@ -2,8 +2,9 @@
 
 from __future__ import annotations
 
+from bisect import bisect_left, bisect_right
 from dataclasses import dataclass
-from itertools import chain, takewhile
+from itertools import chain
 from typing import Callable, Optional
 
 from hinge.arguments import TABLE_FLOWS
@@ -14,7 +15,7 @@ from hinge.loss import KEPT, LOST as LOST_WORD
 from hinge.replays.columns import GREATEST, Lazily
 from hinge.replays.groups import Groups
 from hinge.replays.link_order import LinkOrder, WaitedFor
-from hinge.replays.links import BITS_NS, UNKNOWN, Parts, Spell, bandwidth_of, delay_of
+from hinge.replays.links import BITS_NS, UNKNOWN, Parts, Spell, bandwidth_of, delay_of, loss_of
 from hinge.replays.replay import FULL, HELD, LOST, NONE, OUT
 from hinge.replays.units import ms, packets, rows, seconds
 
@@ -33,6 +34,7 @@ class Explainer:
     def __post_init__(self) -> None:
         self.replay = self.parts.replay
         self.packets = self.replay.packets
+        self.known_turns: dict[tuple[tuple[str, int], Callable[[Setting], int], int], list[int]] = {}
         self.order, self.is_history = LinkOrder(self.parts), self.parts.configuration.path == self.replay.path
         if (self.replay.at != np.maximum.accumulate(self.packets.moment)).any():
             why = "its rows didn't come in their order, as those of several callers: no queue can be told"
@@ -63,22 +65,25 @@ class Explainer:
     def spell(self, number: int) -> Optional[Spell]:
         return None if number == UNKNOWN else self.parts.configuration.spells[number]
 
+    def turns(self, number: int, value: Callable[[Setting], int]) -> list[int]:
+        """Returns the places where the value changes among this target's spells. Other spells in outages don't count."""
+        spells, outages = self.parts.configuration.spells, self.parts.of_outages
+        key = spells[number].target, value, number if number in outages else UNKNOWN
+        if key not in self.known_turns:
+            own = enumerate(self.parts.configuration.by_target[key[0]])
+            values = [
+                (at, (one := spells[place].setting) and value(one)) for at, place in own if place == number or place not in outages
+            ]
+            self.known_turns[key] = [at for (at, one), (_, before) in zip(values, [(0, UNKNOWN), *values]) if one != before]
+        return self.known_turns[key]
+
     def time_of(self, number: int, value: Callable[[Setting], int]) -> tuple[Optional[int], Optional[int]]:
         """From when to when a pipe or queue had the value of this spell; None where that was from the beginning, or to the end."""
-        spells, places = (
-            self.parts.configuration.spells,
-            self.parts.configuration.by_target[self.parts.configuration.spells[number].target],
-        )
-        at, wanted = places.index(number), value(spells[number].setting)  # type: ignore[arg-type]
-
-        def is_same(place: int) -> bool:
-            setting = spells[place].setting
-            return place in self.parts.of_outages or setting is not None and value(setting) == wanted
-
-        first = at - sum(1 for _ in takewhile(is_same, reversed(places[:at])))
-        first += sum(1 for _ in takewhile(self.parts.of_outages.__contains__, places[first:at]))
-        end = at + 1 + sum(1 for _ in takewhile(is_same, places[at + 1 :]))
-        return spells[places[first]].moment if first else None, spells[places[end]].moment if end < len(places) else None
+        spells, turns = self.parts.configuration.spells, self.turns(number, value)
+        places = self.parts.configuration.by_target[spells[number].target]
+        at = bisect_right(turns, bisect_left(places, number))
+        begin, ends = turns[at - 1], turns[at : at + 1]
+        return spells[places[begin]].moment if begin else None, spells[places[ends[0]]].moment if ends else None
 
     def while_so(self, number: int, value: Callable[[Setting], int]) -> str:
         """Describes the same in words; an empty text if the value never changed."""
@@ -93,7 +98,7 @@ class Explainer:
     def shades(self, end: int) -> set[tuple[int, int]]:
         """From when to when a pipe lost all packets, which it didn't from the beginning, or held all."""
         lossy = [
-            self.time_of(number, lambda setting: setting.loss)
+            self.time_of(number, loss_of)
             for number, spell in enumerate(self.parts.configuration.spells)
             if spell.setting is not None and spell.setting.loss == LOSS_PARTS
         ]
@@ -164,7 +169,7 @@ class Explainer:
         length, took = int(self.packets.length[place]), int(self.parts.transmission[place])
         rounding = "" if length * BITS_NS % bandwidth == 0 else ", rounded up to whole ns"
         in_force = self.while_so(carrier, bandwidth_of)
-        alone = " to " in in_force and np.count_nonzero(self.replay.is_out & (self.parts.carrier == carrier)) == 1
+        alone = " to " in in_force and self.parts.carried[carrier + 1] == 1
         whose = f", {in_force}{' for this packet alone, as a trace or an outage has it' * bool(alone)}" if in_force else ""
         return f"Its transmission took {ms(took)} ({length:,} bytes at {bandwidth:,} bit/s{rounding}{whose})."
 
@@ -224,7 +229,7 @@ class Explainer:
         word, own = int(self.packets.word[place]), self.own(place)
         if word & LOW_31_BITS >= own.loss:
             raise self.parts.another(f"row {place + 1} would not have been lost")
-        in_force = self.while_so(int(self.parts.own[place]), lambda setting: setting.loss)
+        in_force = self.while_so(int(self.parts.own[place]), loss_of)
         if own.loss == LOSS_PARTS and in_force:
             return f"It was lost in a cut or a lossy outage: {self.target_name(place)} lost all packets {in_force.removeprefix('in force ')}."
         if word & LOW_31_BITS == LOST_WORD and own.loss == LOSS_PARTS // 2:

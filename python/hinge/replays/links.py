@@ -72,10 +72,16 @@ class Configuration:
         found: Integers = table[np.searchsorted(begins, before, side="left")]
         return found
 
+    @cached_property
+    def tables(self) -> dict[Callable[[Setting], int], Integers]:
+        """The spells' values, as far as a caller needed them."""
+        return {}
+
     def values(self, places: Integers, value: Callable[[Setting], int]) -> Integers:
         """Returns a value from the spell at each place, 0 for UNKNOWN."""
-        table = np.array([*(value(spell.setting) if spell.setting else 0 for spell in self.spells), 0], np.int64)
-        found: Integers = table[places]
+        if value not in self.tables:
+            self.tables[value] = np.array([*(value(spell.setting) if spell.setting else 0 for spell in self.spells), 0], np.int64)
+        found: Integers = self.tables[value][places]
         return found
 
 
@@ -98,6 +104,10 @@ def bandwidth_of(setting: Setting) -> int:
 def delay_of(setting: Setting) -> int:
     """In ns."""
     return setting.delay * NS_PER_MS if isinstance(setting, Pipe) else 0
+
+
+def loss_of(setting: Setting) -> int:
+    return setting.loss
 
 
 @dataclass(frozen=True)
@@ -131,6 +141,11 @@ class Parts:
                 later = self.configuration.places(("pipe", number), start, MOMENT)
                 found[rows] = np.where(start > replay.at[rows], later, on_coming)
         return found
+
+    @cached_property
+    def carried(self) -> Integers:
+        """The number of rows that left in each spell, after those in UNKNOWN."""
+        return np.bincount(self.carrier[self.replay.is_out] + 1)
 
     @cached_property
     def of_nobody(self) -> int:
