@@ -2,7 +2,7 @@
 
 from __future__ import annotations
 
-from dataclasses import dataclass, field
+from dataclasses import dataclass, field, replace
 from typing import Iterable, Iterator, Optional
 
 from hinge.arguments import PICTURE_FLOWS
@@ -196,33 +196,29 @@ def waiting(replay: Replay, places: Integers) -> tuple[Reals, Reals]:
     return moments[order][ends] / NS_PER_S, np.cumsum(ups[order])[ends].astype(float)
 
 
-def shared_pipes(replay: Replay, groups: Groups, pipes: dict[str, str]) -> dict[str, Integers]:
-    """Returns the places of the packets for each pipe, or queue with an unknown pipe, except if all belong to one drawn flow."""
+def pipes_of(replay: Replay, known: dict[str, str]) -> Groups:
+    """Returns the rows in groups by pipe, or by queue if its pipe is unknown; a picture sums up all but the largest."""
+    targets = group(replay, "target")
+    names = [known.get(name, name) for name in targets.names]
+    numbers = {name: number for number, name in enumerate(dict.fromkeys(names))}
+    pipes = Groups(np.array([numbers[name] for name in names], np.int64)[targets.of], [*numbers])
+    if len(numbers) <= MOST_PIPES:
+        return pipes
+    *large, others = (pipes := pipes.largest(replay.packets.length, MOST_PIPES)).names
+    return replace(pipes, names=[*large, others.replace("others", "other pipes")])
+
+
+def shared(replay: Replay, groups: Groups, pipes: Groups) -> dict[str, Integers]:
+    """Returns the places of the packets for each pipe, except if all belong to one drawn flow."""
     rest = len(groups.names) - 1 if groups.has_rest else -1  # which stands for several
     return {
         name: places
-        for name, places in by_pipe(replay, pipes).items()
+        for name, places in pipes.places()
         if len(column := np.flatnonzero(np.bincount(groups.of[places]))) > 1 or rest in column and replay.is_out[places].any()
     }
 
 
-def small_pipes(replay: Replay, targets: Groups, pipes: dict[str, str], bandwidths: Iterable[str]) -> set[str]:
-    """Returns the pipes beyond the largest ones, which a picture sums up."""
-    sizes = dict.fromkeys((name.removesuffix(A_FLOW) for name in bandwidths), 0.0)
-    for name, size in zip(targets.names, np.bincount(targets.of, weights=replay.packets.length).tolist()):
-        sizes[pipes.get(name, name)] = sizes.get(pipes.get(name, name), 0) + size
-    return {*sorted(sizes, key=sizes.__getitem__, reverse=True)[MOST_PIPES:]}
-
-
-def by_pipe(replay: Replay, pipes: dict[str, str]) -> dict[str, Integers]:
-    """Returns the places of the packets for each pipe, or queue with an unknown pipe."""
-    table: dict[str, list[Integers]] = {}
-    for name, places in group(replay, "target").places():
-        table.setdefault(pipes.get(name, name), []).append(places)
-    return {name: np.sort(np.concatenate(several), kind="stable") for name, several in table.items()}
-
-
-def named_places(replay: Replay, groups: Groups, pipes: dict[str, str]) -> Iterator[tuple[str, Integers, bool]]:
+def named_places(groups: Groups, pipes: Groups) -> Iterator[tuple[str, Integers, bool]]:
     """Yields each flow's places in a single pipe or queue, and whether the flow stands for several."""
     last = len(groups.names) - 1 if groups.has_rest else -1
     for number, (name, places) in enumerate(groups.places()):
@@ -230,7 +226,7 @@ def named_places(replay: Replay, groups: Groups, pipes: dict[str, str]) -> Itera
             yield name, places, False
             continue
         is_there = groups.of == last
-        parts = {pipe: there[is_there[there]] for pipe, there in by_pipe(replay, pipes).items() if is_there[there].any()}
+        parts = {pipe: there[is_there[there]] for pipe, there in pipes.places() if is_there[there].any()}
         for pipe, there in parts.items():
             count = np.count_nonzero(np.bincount(groups.each[there])) if groups.each is not None else 0
             yield (f"{several(count, 'other')} of {pipe}" if len(parts) > 1 else name), there, True
@@ -262,16 +258,15 @@ def series(
     bounds: Iterable[Bounded] = (),
 ) -> Series:
     steps, changes = Steps(step_ns, span), list(changes)
-    pipes, bandwidths, targets = pipe_names(changes), capacities(changes, span), group(replay, "target")
-    small = small_pipes(replay, targets, pipes, bandwidths)
-    pipes |= {name: f"the other {len(small):,} pipes" for name in targets.names if pipes.get(name, name) in small}
-    flows = [flow_series(replay, name, places, is_rest, steps) for name, places, is_rest in named_places(replay, groups, pipes)]
+    pipes, queues = pipes_of(replay, pipe_names(changes)), group(replay, "target")
+    queues = queues.largest(replay.packets.length, MOST_PIPES) if len(queues.names) > MOST_PIPES else queues
+    flows = [flow_series(replay, name, places, is_rest, steps) for name, places, is_rest in named_places(groups, pipes)]
     drops = {EVENT_NAMES[cause]: steps.counts(replay.at[replay.event == cause]) for cause in CAUSES}
-    drawn = targets.largest(replay.packets.length, MOST_PIPES) if len(targets.names) > MOST_PIPES else targets
-    queues = {name: waiting(replay, places) for name, places in drawn.places()}
-    common = shared_pipes(replay, groups, pipes)
+    waits = {name: waiting(replay, places) for name, places in queues.places()}
+    common, rates = shared(replay, groups, pipes), capacities(changes, span)
     rates_out = {name: carried(replay, places, steps) for name, places in common.items()}
     rates_in = {name: offered(replay, places, steps) for name, places in common.items()}
-    settings = {name: rates for name, rates in bandwidths.items() if name.removesuffix(A_FLOW) not in small}, limits(changes, span)
-    of_pipes = [bound for bound in bounds if bound.name not in small]
-    return Series(replay, steps, flows, drops, queues, rates_out, rates_in, *settings, lateness or {}, of_pipes)
+    if len(rates) > MOST_PIPES:
+        rates = {name: points for name, points in rates.items() if name.removesuffix(A_FLOW) in pipes.names}
+    settings = rates, limits(changes, span), lateness or {}, [one for one in bounds if one.name in pipes.names]
+    return Series(replay, steps, flows, drops, waits, rates_out, rates_in, *settings)

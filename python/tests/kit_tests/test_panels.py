@@ -77,13 +77,13 @@ class Panels(unittest.TestCase):
         groups = group(parts.replay, "tuple").largest(parts.replay.packets.length, 1)
         found = series(parts.replay, groups, NS_PER_S, NS_PER_S, changes, bounds=bounds)
         large = [f"pipe {number}" for number in range(3, 11)]
-        assert {*found.carried} == {"the other 3 pipes", *large}
-        assert found.carried["the other 3 pipes"].tolist() == [0.024]
+        assert {*found.carried} == {"2 other pipes", *large}
+        assert found.carried["2 other pipes"].tolist() == [0.024]
         assert [*found.capacities] == [one.name for one in found.bounds] == large
         assert {name: lengths.max() for name, (_, lengths) in found.waiting.items()}["2 others"] == 1
         rest = {flow.name: flow.packets for flow in found.flows if flow.is_rest}
         assert rest == {
-            "2 others of the other 3 pipes": 2,
+            "2 others of 2 other pipes": 2,
             **{f"{number} others of pipe {number}": number for number in range(3, 11)},
         }
 
