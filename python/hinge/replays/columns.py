@@ -41,13 +41,8 @@ def is_address(text: str) -> bool:
 NUMBER, FIELD = number_to(GREATEST), number_to(GREATEST, may_be_empty=True)
 PACKET_FIELDS: dict[str, OfWord] = {
     **{"moment": NUMBER, "target": lambda text: text in KINDS, "number": NUMBER, "src": is_address, "dst": is_address},
-    **{
-        "proto": number_to(255),
-        "sport": number_to(65535),
-        "dport": number_to(65535),
-        "len": NUMBER,
-        "word": number_to(2**32 - 1),
-    },
+    **{"proto": number_to(255), "sport": number_to(65535), "dport": number_to(65535)},
+    **{"len": NUMBER, "word": number_to(2**32 - 1)},
 }
 REPORT_FIELDS: dict[str, OfWord] = {
     **{"event": lambda text: text in EVENT_NAMES, "row": NUMBER, "flow": number_to(2**31 - 1, True), "packet": FIELD},
@@ -129,7 +124,8 @@ class Quoted(Exception):
 @contextmanager
 def asked(source: BinaryIO, words: Iterable[str], refuse: Callable[[int, str], object]) -> Iterator[Answer]:
     """Yields the program's answer about a file. An answer that was read whole counts if the program ended well."""
-    with begun([packets(), "columns", *words], stdin=source, stdout=PIPE, stderr=PIPE) as program:
+    large = {**os.environ, "GLIBC_TUNABLES": "glibc.malloc.hugetlb=1"}  # pages, with which long tables are read faster
+    with begun([packets(), "columns", *words], stdin=source, stdout=PIPE, stderr=PIPE, env=large) as program:
         try:
             yield Answer(program, refuse)
             if not cast(Any, program.stdout).read(1) and (status := program.wait()):
