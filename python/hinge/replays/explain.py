@@ -138,9 +138,8 @@ class Explainer:
         wait, took = start - at, due - at
         parts_of_it = f"{ms(took)} = {ms(wait)} waiting + {ms(sending)} transmission + {ms(delay)} delay"
         in_force = self.while_so(int(parts.carrier[place]), delay_of)
-        before = (
-            f"{self.waiting(place, wait)} {self.sending(place)} The link's delay was {ms(delay)}{', ' * bool(in_force)}{in_force}."
-        )
+        own_delay = f"The link's delay was {ms(delay)}{', ' * bool(in_force)}{in_force}."
+        before = f"{self.waiting(place, wait)} {self.sending(place)} {own_delay}"
         if behind:
             before, parts_of_it = f"{before} {self.stayed_behind(place, behind)}", f"{parts_of_it} + {ms(behind)} behind another"
         further = self.order.further.get(place) if self.is_history else None
@@ -249,10 +248,8 @@ class Explainer:
             raise self.parts.another(f"row {place + 1} would have found room")
         why = f"The queue of its flow {self.replay.flow[place]} was full, so it was dropped"
         unsure = "at most " * bool(self.parts.is_shared[place] and (self.replay.event[backlog] == HELD).any())
-        backlog_text = (
-            f"{unsure}{packets(len(backlog))} waited there ({rows((backlog + 1).tolist())}), {total:,} bytes in all, {options}"
-        )
-        return f"{why}: {backlog_text}. {self.room_again(place, int(backlog[leaver]))}"
+        waited = f"{unsure}{packets(len(backlog))} waited there ({rows((backlog + 1).tolist())}), {total:,} bytes in all, {options}"
+        return f"{why}: {waited}. {self.room_again(place, int(backlog[leaver]))}"
 
     def room_again(self, place: int, leaver: int) -> str:
         """Describes the moment at which the queue had room: the start of this packet's transmission."""
@@ -277,10 +274,8 @@ class Explainer:
             f"It was accepted as packet {self.replay.packet[place]}",
         )
         number = int(np.searchsorted(queue.places, place))
-        start, ended = (
-            int(queue.starts[number]),
-            "the history ends" if self.is_history else f"the replay ended at {seconds(LAST_MOMENT)} (2^62 ns)",
-        )
+        start = int(queue.starts[number])
+        ended = "the history ends" if self.is_history else f"the replay ended at {seconds(LAST_MOMENT)} (2^62 ns)"
         if queue.gone[number] != GREATEST:
             unsure = ", unless its transmission had begun" * bool(self.parts.is_shared[place])
             spell = next(one for one in self.parts.configuration.spells if one.record == queue.gone[number])
