@@ -13,10 +13,10 @@ from typing import Callable, Collection, Mapping, NamedTuple, Optional, Sequence
 
 from hinge.command import Fault
 from hinge.foreign_options import OF_LINK, OPTIONS, filled, one_way
-from hingetulip_words.foreign import STRICT, Meant, quantity
+from hingetulip_words.foreign import STRICT, Meant, amount
 from hingetulip_words.link import LEFT_OUT, Place, corrected, in_full, link_before, read_link
 from hingetulip_words.presets import PRESETS, either_way
-from hingetulip_words.values import SHARES, plain_number
+from hingetulip_words.values import SHARES, decimal
 
 BOTH = ("--up", "--down")
 ONE_WAY = "it is one way, as in the original; --link is both"
@@ -136,8 +136,8 @@ def of_ipfw(words: Sequence[str]) -> Optional[Answer]:
         return Answer(f"hinge run{''.join(f' --line {shlex.quote(line)}' for line in lines)} -- COMMAND", "LINKS")
     if own[:1] == ["sched"]:
         return lacking(own[:1])
-    if "prob" in own[:-1] and (part := quantity(own[own.index("prob") + 1], "part")) is not None:
-        return Answer(f"hinge run --link 'loss {plain_number(part)}%' -- COMMAND", "LINKS")
+    if "prob" in own[:-1] and (part := amount(own[own.index("prob") + 1], "part")) is not None:
+        return Answer(f"hinge run --link 'loss {decimal(part)}%' -- COMMAND", "LINKS")
     is_verb = own[:1] and own[0] in ("pipe", "queue", "sched", "add", "show", "list", "delete", "flush")
     verbs = ["list" if word == "show" else word for word in own[2::-1]]
     answer = next((WORDS[word] for word in verbs if word in WORDS), None) if is_verb else None

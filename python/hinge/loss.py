@@ -18,7 +18,7 @@ from typing import Callable, Collection, Optional, Protocol, Union
 
 from hinge.captures.random_words import word
 from hinge.run.words import WAYS, Wrong
-from hingetulip_words.values import plain_number
+from hingetulip_words.values import decimal
 
 LOST, KEPT = 0, (1 << 31) - 1
 PARTS = 1 << 31  # of a rate, as the program has it
@@ -195,7 +195,7 @@ MODELS = {"gilbert": gilbert, "list": listed}
 def rate_of(text: str) -> str:
     """Returns the percentage if the text is a loss rate, which belongs into the link."""
     rate = re.fullmatch(r"(\d+(?:\.\d+)?|\.\d+)(%?)", text)
-    return plain_number(Fraction(rate[1]) * (1 if rate[2] or Fraction(rate[1]) > 1 else 100)) + "%" if rate else ""
+    return decimal(Fraction(rate[1]) * (1 if rate[2] or Fraction(rate[1]) > 1 else 100)) + "%" if rate else ""
 
 
 def loss_lines(text: str, link: int = 0) -> dict[int, str]:

@@ -14,7 +14,7 @@ from hinge.paths.report import ways
 from hinge.paths.timeline import Timeline
 from hinge.pictures.drawing import DASHED, SOLID, Edge, Graph, Node, Panel
 from hingetulip_words.foreign import in_units
-from hingetulip_words.values import plain_number
+from hingetulip_words.values import decimal
 
 BANDWIDTH = re.compile(r"\bbw (\d{1,18})bit/s")
 DELAY = re.compile(r"\bdelay (\d+)")
@@ -50,7 +50,7 @@ def places_of(count: int, links: list[tuple[int, int]]) -> Reals:
 def as_link(words: str) -> str:
     """Converts a pipe's configuration into link words, such as `12Mbit/s 10ms loss 1%`."""
     words = BANDWIDTH.sub(lambda match: in_units(Fraction(match[1])), words)
-    words = LOSS.sub(lambda match: f"loss {plain_number(as_typed(Fraction(match[1])) * 100)}%", words)
+    words = LOSS.sub(lambda match: f"loss {decimal(as_typed(Fraction(match[1])) * 100)}%", words)
     return DELAY.sub(r"\1ms", words)
 
 
