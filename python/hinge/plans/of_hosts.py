@@ -12,13 +12,15 @@ from hinge.plans.meaning import ACT_ENDS, FOR_EVER, SECOND, LineEvent, Meaning
 
 MS = 10**6
 Key = Tuple[str, str]  # a host and the word of an act
-Place = Tuple[int, int]  # a moment and the order of the lines
-DoneAct = Tuple[int, int, str, str]  # when it was done, and should be, its host and its words
+Place = Tuple[int, int]  # a moment, and the place of an event among all
+DoneAct = Tuple[int, int, str, str]  # an act's moment in the transcript, its moment in the file, its host and its words
 NO_ACT: DoneAct = (0, 0, "", "")
-UDP = "17"  # the protocol of what no kernel sends by itself
+UDP = "17"  # a protocol that no kernel sends by itself
 
 
 class Broken(NamedTuple):
+    """A fault of the transcript, at a moment in ns."""
+
     moment: int
     text: str
 
@@ -28,20 +30,22 @@ def seconds(moment: int) -> str:
 
 
 class OfHosts:
-    """A transcript's content on hosts."""
+    """Judges the acts on hosts in a transcript, such as kills and stops."""
 
     def __init__(self, meaning: Meaning, limit: int) -> None:
         """Acts may be late by the limit, in ns."""
-        self.meaning, self.limit, self.now = meaning, limit, 0
+        self.meaning = meaning
+        self.limit = limit
+        self.now = 0  # the moment of the transcript's latest call, in ns
         self.faults: list[Broken] = []
         self.remarks: list[str] = []
         self.stops = defaultdict[Key, list[LineEvent]](list)  # and kills, in order, up to the first packet that shows if they hold
-        self.ends_of = defaultdict[Key, list[int]](list)  # the moments of what ends them, by its word
-        self.acts: list[tuple[int, str, str]] = []  # as they were told
-        self.places = defaultdict[Key, deque[int]](deque)  # of acts in that list
-        self.latest = defaultdict[Key, list[int]](list)  # the moments of acts, without those before an earlier one
-        self.last: dict[str, str] = {}  # of `stop` and `cont`, by hosts
-        self.late_act = 0  # ns, of the act that the next remark tells
+        self.ends_of = defaultdict[Key, list[int]](list)  # the moments of restarts and conts
+        self.acts: list[tuple[int, str, str]] = []  # the transcript's acts: moment, word and host
+        self.places = defaultdict[Key, deque[int]](deque)  # each act's places in `acts`
+        self.latest = defaultdict[Key, list[int]](list)  # the growing moments of each act
+        self.last: dict[str, str] = {}  # each host's last act, `stop` or `cont`
+        self.late_act = 0  # the lateness in ns of the act in the next remark
         self.tells_changes = self.tells_entries = False  # as transcripts since 2.1 do, and those with a later format
         self.entered: dict[str, int] = {}  # when `hinge exec` began something on a host last
         self.own: dict[str, str] = {}  # hosts by their addresses
@@ -55,17 +59,17 @@ class OfHosts:
             self.faults.append(Broken(moment, text))
 
     def note_acts(self, events: list[LineEvent]) -> None:
-        for one in events:
-            if one.kind in ACT_ENDS:
-                heappush(self.stops[one.host, one.kind], one)
-            elif one.kind in ACT_ENDS.values():
-                insort(self.ends_of[one.host, one.kind], one.moment)
+        """Notes the requested acts among these events."""
+        for event in events:
+            if event.kind in ACT_ENDS:
+                heappush(self.stops[event.host, event.kind], event)
+            elif event.kind in ACT_ENDS.values():
+                insort(self.ends_of[event.host, event.kind], event.moment)
 
     def from_stopped(self, moment: int, packet: list[str]) -> None:
-        """Reports datagrams from a stopped or killed host, whose kernel answers but never sends one by itself. `hinge exec` may
-        run programs on a killed host. An excuse for a packet also excuses later ones, so one packet decides about each
-        fault.
-        """
+        """Judges the faults that have begun at the packet's sender: reports a fault during which a stopped or killed host sent a
+        datagram, since a kernel answers but sends no datagram by itself. `hinge exec` may run programs on a killed host. The first
+        packet after a fault's begin decides, since a reason that excuses this packet also excuses later packets."""
         host = self.own.get(packet[0], "") if packet[2] == UDP and not self.ends else ""
         for kind in ACT_ENDS if self.tells_entries else ("stop",):
             faults = self.stops[host, kind]
@@ -76,13 +80,13 @@ class OfHosts:
                     self.fault(moment, f"{fault.where} doesn't hold: at {seconds(moment)} {host} sends to {packet[1]}")
 
     def has_begun(self, fault: LineEvent, moment: int) -> bool:
-        """Returns whether a fault's act was done before a moment, by more than the limit."""
+        """Returns whether a fault's act happened before a moment, by more than the limit."""
         latest = self.latest[fault.host, fault.kind]
         first = bisect_left(latest, fault.moment - MS)
         return first < len(latest) and max(latest[first], fault.moment) + self.limit < moment
 
     def goes_on(self, fault: LineEvent, moment: int) -> bool:
-        """Returns whether a line has ended a fault."""
+        """Returns whether a restart or cont has ended a fault before a moment, so that the host runs again."""
         ends = self.ends_of[fault.host, ACT_ENDS[fault.kind]]
         return bisect_right(ends, fault.moment) < bisect_right(ends, moment)
 
@@ -110,7 +114,8 @@ class OfHosts:
                     yield one.end, ACT_ENDS[one.kind], one.host, one
 
     def note_act(self, moment: int, word: str, host: str) -> None:
-        """Notes an act as it was told. After the end, stopped processes continue, which no line requests."""
+        """Notes an act of the transcript. Omits the conts with which stopped hosts continue after the main command's end, which no
+        line requests."""
         if self.ends and word == "cont" and self.last.get(host) == "stop" and host not in self.gone_on:
             self.gone_on.add(host)
             return
@@ -122,15 +127,17 @@ class OfHosts:
         self.acts.append((moment, word, host))
 
     def requested(self) -> Iterator[tuple[int, str, str, LineEvent, Optional[int]]]:
-        """Yields the requested acts in order, each with the first act that can fulfil the request."""
+        """Yields the requested acts in order: moment, word, host, event, and the place in `acts` of the act that fulfils the
+        request, or None without such an act."""
         for moment, word, host, event in sorted(self.expected(), key=lambda one: (one[0], one[3].place)):
             places = self.places[host, word]
             while places and self.acts[places[0]][0] < moment - MS:
-                places.popleft()  # too early for later lines too
+                places.popleft()  # this act is also too early for later requests
             yield moment, word, host, event, places.popleft() if places else None
 
     def judge_acts(self) -> None:
-        """Looks at each act that a line requests. An act of the same moment on another host may come before a restart, which takes longer."""
+        """Reports each requested act that is missing, late, in the wrong order or too short, and each act that no line requests. An
+        act on another host at the same moment may precede a restart, which takes longer."""
         begun, done, at = dict[int, int](), set[int](), 0
         before, latest = dict[str, DoneAct](), NO_ACT  # of this moment, restarts by their hosts, and of all earlier ones
         for moment, word, host, event, place in self.requested():
