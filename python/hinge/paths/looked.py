@@ -18,7 +18,7 @@ from hinge.paths.matching import Matched, match
 from hinge.paths.net_graph import as_link
 from hinge.paths.net_picture import NetPicture
 from hinge.paths.passages import read_transcript
-from hinge.paths.report import hosts_of, of_faults, of_paths, of_ways, paths, summary, ways
+from hinge.paths.report import Path, hosts_of, of_faults, of_paths, of_ways, paths, summary, ways
 from hinge.paths.timeline import Looked, Timeline, chart, lines_of_changes, name_of_way, timeline_of
 from hinge.pictures.chart import save
 from hinge.pictures.html_page import HtmlPage, save_page
@@ -84,17 +84,7 @@ def look_record(matching: Matched, timeline: Timeline, history: str, seed: str |
             }
             for way in ways(matching)
         ],
-        "paths": [
-            {
-                "hosts": hosts_of(matching, path),
-                "pipes": list(path.pipes),
-                "packets": len(path.sent),
-                "links_ns": [int(time) for time in path.links.mean(axis=0)],
-                "hosts_ns": [int(time) for time in path.hosts.mean(axis=0)],
-                "most_in_hosts_ns": path.most_in_hosts,
-            }
-            for path in paths(matching)
-        ],
+        "paths": [path_record(matching, path) for path in paths(matching)],
         "changes": [
             {**ends.get(change.pipe, {"pipe": change.pipe}), "moment_ns": change.moment, "line": change.words, "cut": change.is_cut}
             for change in timeline.changes
@@ -104,6 +94,17 @@ def look_record(matching: Matched, timeline: Timeline, history: str, seed: str |
             for pipe, times in sorted(timeline.cuts.items())
             for begin, end in times
         ],
+    }
+
+
+def path_record(matching: Matched, path: Path) -> dict[str, Any]:
+    return {
+        "hosts": hosts_of(matching, path),
+        "pipes": list(path.pipes),
+        "packets": len(path.sent),
+        "links_ns": [int(time) for time in path.links.mean(axis=0)],
+        "hosts_ns": [int(time) for time in path.hosts.mean(axis=0)],
+        "most_in_hosts_ns": path.most_in_hosts,
     }
 
 

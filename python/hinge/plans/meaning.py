@@ -186,10 +186,11 @@ class Meaning:
                 whole, digits = divmod(int(Fraction(word.rstrip("%")) * 10**16), 10**18)
                 result += f" plr {whole}.{digits:018d}"
             else:
-                alone = before not in OPTION_WORDS
-                result += (
-                    f" {'bw ' if alone and RATE.fullmatch(word) else 'delay ' if alone and DELAY.fullmatch(word) else ''}{word}"
-                )
+                if before not in OPTION_WORDS and RATE.fullmatch(word):
+                    result += " bw"
+                elif before not in OPTION_WORDS and DELAY.fullmatch(word):
+                    result += " delay"
+                result += f" {word}"
             before = "" if before in (*OPTION_WORDS[:-1], "loss", *OF_HOST) else word
         return result
 
@@ -223,8 +224,10 @@ class Meaning:
         if name in ("cut", "heal"):
             self.cut(where, start, words, doubt)
         elif name in (*ACT_ENDS, *ACT_ENDS.values(), "skew"):
-            length = ns_of(words[2]) if words[2:] and name in ACT_ENDS else 0 if name == "crash" else FOR_EVER - start
-            self.add(where, start, kind=name, end=start + length, host=words[1], doubt=doubt)
+            end = start if name == "crash" else FOR_EVER
+            if words[2:] and name in ACT_ENDS:
+                end = start + ns_of(words[2])
+            self.add(where, start, kind=name, end=end, host=words[1], doubt=doubt)
         else:
             self.link_change(where, start, *self.between(words), doubt)
 
@@ -263,11 +266,8 @@ class Meaning:
 
     def nemesis(self, where: str, words: list[str]) -> None:
         """Adds the lines that the seed drew for a nemesis, up to a line whose distance, length, kind or hosts don't fit."""
-        times = {
-            key: [ns_of(one) for one in words[words.index(key) + 1].split("..")]
-            for key in ("every", "for", "from", "until")
-            if key in words
-        }
+        keys = [key for key in ("every", "for", "from", "until") if key in words]
+        times = {key: [ns_of(time) for time in words[words.index(key) + 1].split("..")] for key in keys}
         hosts = words[words.index("of") + 1 :] if "of" in words else list(self.hosts)
         last = -1
         until = times.get("until", [3600 * 10**9])[-1]
@@ -276,9 +276,8 @@ class Meaning:
             moment = ns_of(at)
             span = times["every"] if last >= 0 else times.get("from", times["every"])
             is_next = span[0] <= moment - max(last, 0) <= span[-1] or moment == last
-            is_fit = kind == NEMESES.get(words[0], "cut") and set(rest[:-1]) - {"from"} <= set(hosts) | (
-                {*self.hosts} if kind == "cut" else set()
-            )
+            allowed = {*hosts, *self.hosts} if kind == "cut" else {*hosts}
+            is_fit = kind == NEMESES.get(words[0], "cut") and set(rest[:-1]) - {"from"} <= allowed
             if not (is_next and is_fit and moment <= until and times["for"][0] <= ns_of(rest[-1]) <= times["for"][-1]):
                 break
             last = moment

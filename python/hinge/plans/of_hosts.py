@@ -54,7 +54,9 @@ class OfHosts:
         self.fronts: set[str] = set()  # of the faults
 
     def fault(self, moment: int, text: str) -> None:
-        if (front := text.partition(":")[0]) not in self.fronts:
+        """Adds a fault, unless an earlier fault has the same text up to a colon."""
+        front = text.partition(":")[0]
+        if front not in self.fronts:
             self.fronts.add(front)
             self.faults.append(Broken(moment, text))
 
@@ -93,25 +95,28 @@ class OfHosts:
     def expected(self) -> Iterator[tuple[int, str, str, LineEvent]]:
         """Yields the acts that a transcript must contain, with their moments. A fault's end counts only when no other fault of the
         same kind continues."""
-        acts = sorted(one for one in self.meaning.events if one.host and one.kind != "skew")
-        ends, same = defaultdict[Key, list[Place]](list), defaultdict[Key, list[Place]](list)  # by host and the word that ends
-        latest = defaultdict[Key, list[Place]](list)  # the ends of the faults up to each of `same`, behind the last of `ends`
-        for one in acts:
-            ends[one.host, one.kind].append(one[:2])
-            if word := ACT_ENDS.get(one.kind):
-                key = one.host, word
+        acts = sorted(event for event in self.meaning.events if event.host and event.kind != "skew")
+        ends = defaultdict[Key, list[Place]](list)  # the acts of each host and word, among these restarts and conts
+        same = defaultdict[Key, list[Place]](list)  # the faults that the same word ends at the same host
+        latest = defaultdict[Key, list[Place]](list)  # for each of `same`, the latest end of the faults since the last of `ends`
+        for act in acts:
+            ends[act.host, act.kind].append(act[:2])
+            if act.kind in ACT_ENDS:
+                key = (act.host, ACT_ENDS[act.kind])
+                end = (act.end, act.place)
                 goes_on = same[key] and (not ends[key] or ends[key][-1] < same[key][-1])
-                latest[key].append(max([(one.end, one.place), *latest[key][-1:]]) if goes_on else (one.end, one.place))
-                same[key].append(one[:2])
-        for one in acts:
-            yield one.moment, one.kind, one.host, one
-            until, key = (one.end, one.place), (one.host, ACT_ENDS.get(one.kind, ""))
-            if one.kind in ACT_ENDS and one.end < FOR_EVER:
-                before = bisect_left(ends[key], until)
+                latest[key].append(max([end, *latest[key][-1:]]) if goes_on else end)
+                same[key].append(act[:2])
+        for act in acts:
+            yield act.moment, act.kind, act.host, act
+            if act.kind in ACT_ENDS and act.end < FOR_EVER:
+                key = (act.host, ACT_ENDS[act.kind])
+                end = (act.end, act.place)
+                before = bisect_left(ends[key], end)
                 last = ends[key][before - 1] if before else (-1, -1)
-                behind = bisect_left(same[key], until)
-                if last <= one[:2] and (not behind or latest[key][behind - 1] <= until):
-                    yield one.end, ACT_ENDS[one.kind], one.host, one
+                others = bisect_left(same[key], end)
+                if last <= act[:2] and (not others or latest[key][others - 1] <= end):
+                    yield act.end, ACT_ENDS[act.kind], act.host, act
 
     def note_act(self, moment: int, word: str, host: str) -> None:
         """Notes an act of the transcript. Omits the conts with which stopped hosts continue after the main command's end, which no
@@ -138,27 +143,39 @@ class OfHosts:
     def judge_acts(self) -> None:
         """Reports each requested act that is missing, late, in the wrong order or too short, and each act that no line requests. An
         act on another host at the same moment may precede a restart, which takes longer."""
-        begun, done, at = dict[int, int](), set[int](), 0
-        before, latest = dict[str, DoneAct](), NO_ACT  # of this moment, restarts by their hosts, and of all earlier ones
+        begun: dict[int, int] = {}  # the moments at which faults began, by the events' places
+        done: set[int] = set()  # the places of the acts that lines request
+        at = 0  # the present moment in the file
+        before: dict[str, DoneAct] = {}  # the latest acts requested for this moment: restarts by their hosts, others under ""
+        latest = NO_ACT  # the latest act requested for an earlier moment
         for moment, word, host, event, place in self.requested():
             if place is None:
                 if moment + self.limit < self.now:
                     self.fault(moment, f"{event.where}: `{word} {host}` at {seconds(moment)} wasn't done")
                 continue
             if at != moment:
-                at, before, latest = moment, {}, max(latest, *before.values(), NO_ACT)
-            told = self.acts[place][0]
+                latest = max(latest, *before.values(), NO_ACT)
+                at = moment
+                before = {}
+            came = self.acts[place][0]
             last = max(latest, before.get("", NO_ACT), before.get(host, NO_ACT))
-            if told - moment - event.doubt > self.limit:
-                self.fault(told, f"{event.where}: `{word} {host}` came {(told - moment - event.doubt) / MS:.3f} ms late")
-            elif told < last[0]:
-                self.fault(told, f"{event.where}: `{word} {host}` came before {last[3]}")
-            elif event.place in begun and (short := event.end - event.moment - (told - begun[event.place])) > self.limit:
-                self.fault(told, f"{event.where} lasted {short / MS:.3f} ms less than it should")
-            begun.setdefault(event.place, told)
+            lateness = came - moment - event.doubt
+            lack = event.end - event.moment - (came - begun[event.place]) if event.place in begun else 0
+            if lateness > self.limit:
+                self.fault(came, f"{event.where}: `{word} {host}` came {lateness / MS:.3f} ms late")
+            elif came < last[0]:
+                self.fault(came, f"{event.where}: `{word} {host}` came before {last[3]}")
+            elif event.place in begun and lack > self.limit:
+                self.fault(came, f"{event.where} lasted {lack / MS:.3f} ms less than it should")
+            begun.setdefault(event.place, came)
             done.add(place)
-            of = host if word == "restart" else ""
-            before[of] = max(before.get(of, NO_ACT), (told, moment, host, f"`{word} {host}` of {event.where}"))
+            key = host if word == "restart" else ""
+            before[key] = max(before.get(key, NO_ACT), (came, moment, host, f"`{word} {host}` of {event.where}"))
+        self.judge_unrequested(done)
+
+    def judge_unrequested(self, done: set[int]) -> None:
+        """Reports the acts that no line requests, or adds remarks on them if the transcript doesn't tell the control socket's
+        changes. `done` are the places of the other acts."""
         for moment, word, host in (act for place, act in enumerate(self.acts) if place not in done):
             text = f"`{word} {host}` at {seconds(moment)} isn't the file's"
             if self.tells_changes:
