@@ -5,10 +5,10 @@ from __future__ import annotations
 import re
 from typing import NamedTuple, Optional, Sequence
 
-from hingetulip_words.advice import OTHER_NAMES, option_word
+from hingetulip_words.advice import option_word
 from hingetulip_words.presets import NEAREST, PRESETS
 from hingetulip_words.values import DELAY as DELAY_WORD
-from hingetulip_words.values import EXTRAS, FACTOR, PER_SECOND, PERCENT, SHARES, TIMES, Advice, plain, wrong_form
+from hingetulip_words.values import EXTRAS, FACTOR, PER_SECOND, PERCENT, SHARES, TIMES, Advice, wrong_form
 
 RATE = re.compile(rf"\d+{FACTOR}{PER_SECOND}", re.ASCII | re.IGNORECASE)
 DELAY = re.compile(r"\d+ms", re.ASCII)
