@@ -20,6 +20,7 @@ from hingetulip.aio.member import LONGEST
 from hingetulip.aio.border import LIBRARY, calls
 from hingetulip.aio.refusals import ALLOWED, NO_TCP, OF_C, SOCKET, RealTimeError
 from hingetulip.aio.switched import Either, Function, note_all, of_run, switched
+from hingetulip.aio.thread_functions import ThreadFunctions
 
 if TYPE_CHECKING:
     from hingetulip.aio.descriptors import Descriptors
@@ -221,7 +222,7 @@ def real_refused(uses: RealUses, descriptors: Descriptors) -> Iterator[None]:
     """Refuses real calls in this thread, or reports them, within the context."""
     selecting = Selecting(descriptors, uses)
     functions: dict[tuple[Any, str], Either] = {
-        (time, "sleep"): descriptors.loop.baton.sleep,
+        (time, "sleep"): ThreadFunctions(descriptors.loop.baton).sleep,
         (select, "select"): selecting.select,
         (type(select.poll()), "poll"): selecting.poll,
         (select.epoll, "poll"): selecting.epoll,
