@@ -1,4 +1,4 @@
-"""The functions that a run in simulated time refuses, since they depend on the real clock or network."""
+"""The texts of a run's refusals: calls that depend on the real clock or network, or that simulated hosts lack."""
 
 from __future__ import annotations
 

@@ -13,7 +13,7 @@ from unittest import mock
 
 from hingetulip.aio.addresses import FLAGS
 from hingetulip.aio.datagram_socket import DatagramSocket
-from hingetulip.aio.kept import given_anew
+from hingetulip.aio.kept import libraries_adapted
 from hingetulip.aio.real import real_refused
 from hingetulip.aio.refusals import NO_COPY, RealTimeError
 from hingetulip.aio.switched import Either, Function, of_run, switched
@@ -98,5 +98,5 @@ def simulated_system(net: Network) -> Iterator[None]:
         stack.enter_context(real_refused(net.real_uses, net.loop.descriptors))
         stack.enter_context(mock.patch.object(socket.socket, "__new__", make))
         stack.enter_context(switched(net.names.functions()))
-        stack.enter_context(given_anew())
+        stack.enter_context(libraries_adapted())
         yield
