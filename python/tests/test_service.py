@@ -185,7 +185,7 @@ class Waiting(unittest.TestCase):
     def test_a_busy_service_is_tried_at_once_and_then_after_rests(self) -> None:
         statuses = iter([service.BUSY] * 6 + [16])
         with mock.patch.object(service, "sleep") as sleep:
-            self.assertEqual(16, service.answered(lambda *_: next(statuses), 1, 2))
+            self.assertEqual(16, service.retried(lambda *_: next(statuses), 1, 2))
         self.assertEqual([mock.call(0)] * 4 + [mock.call(20e-6)] * 2, sleep.mock_calls)
 
 
