@@ -6,7 +6,7 @@ from array import array
 from typing import Any, Generic, Iterable, Iterator, Optional, Sequence, TypeVar, Union, overload
 
 from hingetulip.errors import RangeError
-from hingetulip.layout import DELIVERY, FATE, PACKET, Layout
+from hingetulip.layout import DELIVERY, FATE, PACKET, PIPE, QUEUE, Layout
 from hingetulip.records import Delivery, Fate, Outcome
 
 Item = TypeVar("Item", covariant=True)
@@ -147,7 +147,7 @@ class Packets(Batch):
             "moment": moment,
             "length": length,
             "number": number,
-            "kind": int(pipe is None),
+            "kind": QUEUE if pipe is None else PIPE,
             "src": src,
             "dst": dst,
             "proto": proto,

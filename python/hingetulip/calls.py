@@ -18,7 +18,7 @@ from typing import Any, Callable, NoReturn, Optional, TypeVar, Union
 
 from hingetulip.batches import QUEUED, make_fate, read_fate
 from hingetulip.errors import InUseError, LineError, RangeError
-from hingetulip.layout import DELIVERY, FATE, FAULT, FLOW, PACKET
+from hingetulip.layout import DELIVERY, FATE, FAULT, FLOW, PACKET, PIPE, QUEUE
 from hingetulip.library import LAST_MOMENT, LINE, NEVER, Handle, failure, reason
 from hingetulip.records import Delivery, Fate, FlowStatus
 
@@ -64,8 +64,8 @@ def read_flow(*fields: int) -> FlowStatus:
     """Returns a flow from the fields of the library's struct."""
     values = dict(zip(FLOW.codes, fields))
     number = values.pop("number")
-    is_of_queue = values.pop("kind")
-    return FlowStatus(queue=number if is_of_queue else None, **values)
+    kind = values.pop("kind")
+    return FlowStatus(queue=number if kind == QUEUE else None, **values)
 
 
 class Turn:
@@ -205,10 +205,10 @@ class Calls(ABC):
         target, or two. InUseError: another call is in progress.
         """
         if pipe is None:
-            number, kind = queue, 1
+            number, kind = queue, QUEUE
         else:
-            number, kind = pipe, 0
-        if number is None or kind == 0 and queue is not None:
+            number, kind = pipe, PIPE
+        if number is None or kind == PIPE and queue is not None:
             raise TypeError(NEITHER_OR_BOTH)
         if not self._take():
             raise InUseError

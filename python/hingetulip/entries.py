@@ -11,7 +11,7 @@ from typing import NamedTuple, Optional, Sequence, Union
 from hingetulip.batches import read_fate
 from hingetulip.calls import read_flow
 from hingetulip.errors import HistoryError
-from hingetulip.layout import DELIVERY, ENTRY, FATE, FLOW, HISTORY, PACKET
+from hingetulip.layout import DELIVERY, ENTRY, FATE, FLOW, HISTORY, PACKET, QUEUE
 from hingetulip.library import BAD_RECORD, CALLS, ROOM, failure, reason
 from hingetulip.records import Delivery, Fate, FlowStatus, Rule
 
@@ -96,7 +96,7 @@ def submitted(
     moment: int, src: int, dst: int, word: int, sport: int, dport: int, length: int, number: int, kind: int, proto: int
 ) -> Submitted:
     """Returns a packet from the fields of the library's struct."""
-    pipe, queue = (None, number) if kind else (number, None)
+    pipe, queue = (None, number) if kind == QUEUE else (number, None)
     return Submitted(moment, length, pipe, queue, src, dst, proto, sport, dport, word)
 
 

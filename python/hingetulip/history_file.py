@@ -67,9 +67,9 @@ class Recording:
         self._first = self._place.value = addressof((c_char * len(self._text)).from_buffer(self._text))
         self._room.value = longest
 
-    def entry(self, *words: Any) -> tuple[Any, ...]:
-        """Returns the arguments of a library call that writes an entry, `words` among them. Frequent calls share these arguments."""
-        return CALLER, *words, self._place, self._room, byref(self._length)
+    def entry(self, *arguments: Any) -> tuple[Any, ...]:
+        """Returns the arguments of a library call that writes an entry: the caller, `arguments` and the buffer. Frequent calls share them."""
+        return CALLER, *arguments, self._place, self._room, byref(self._length)
 
     def add(self, call: Callable[..., int], entry: tuple[Any, ...]) -> None:
         """Adds the entry that a library call writes. For a line without words, the call writes nothing."""

@@ -31,6 +31,7 @@ class Layout:
         return memoryview(records).cast("B").cast(self.codes[name])[offset // width :: self.size // width]
 
 
+PIPE, QUEUE = 0, 1  # a target's kind, in the fields `kind` of packets and flows
 PACKET = Layout("Q moment, I src dst word, H sport dport length number, B kind proto, 2x")
 FATE = Layout("Q at flow packet, I outcome, 4x")
 DELIVERY = Layout("Q due packet flow start, 8x")

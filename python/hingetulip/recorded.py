@@ -38,9 +38,9 @@ class RecordedShaper(Shaper):
             self._recording.add_line(text, status)
             succeed(status)
 
-    def submit(self, *words: Any, **named: Any) -> Fate:
+    def submit(self, *arguments: Any, **keywords: Any) -> Fate:
         with self._recorded_turn:
-            fate = super().submit(*words, **named)
+            fate = super().submit(*arguments, **keywords)
             self._recording.add(CALLS.dn_submit_text, self._submit_entry)
             return fate
 

@@ -54,7 +54,7 @@ class Caller(Calls):
         holder = byref(c_uint64())  # the number of the caller that is in a call
 
         def function(call: Callable[..., int]) -> Callable[..., int]:
-            return lambda *words: retried(call, handle, *words, holder)
+            return lambda *arguments: retried(call, handle, *arguments, holder)
 
         self._configure = function(calls.dn_caller_configure)
         self._submit = function(calls.dn_caller_submit)

@@ -10,7 +10,7 @@ from typing import Any, Callable, Optional
 from hingetulip.batches import Deliveries, Fates, Packets
 from hingetulip.calls import NEITHER_OR_BOTH, NOTHING, Calls, Closing, Turn, pack_packet, secret, succeed, unpackable
 from hingetulip.errors import RangeError
-from hingetulip.layout import DELIVERY, FATE, FLOW, Layout
+from hingetulip.layout import DELIVERY, FATE, FLOW, PIPE, QUEUE, Layout
 from hingetulip.library import CALLS, NEW_FLOW, ROOM, Handle, failure
 from hingetulip.records import Rule
 
@@ -126,7 +126,7 @@ class Shaper(Calls, Closing):
         """
         if (pipe is None) == (queue is None):
             raise TypeError(NEITHER_OR_BOTH)
-        number, kind = (queue, 1) if pipe is None else (pipe, 0)
+        number, kind = (queue, QUEUE) if pipe is None else (pipe, PIPE)
         with self._turn:
             try:
                 pack_packet(self._packet, 0, 0, src, dst, 0, sport, dport, 1, number, kind, proto)

@@ -40,12 +40,12 @@ class Baton:
         self.lost: Optional[str] = None  # an error, or an empty text for none, once a member has left the run without ending
         self.members: dict[int, Member] = {}  # by the threads' identifiers
 
-    def start(self, own: Function, member: Member, function: Function, words: Any = (), named: Any = {}) -> Any:
+    def start(self, own: Function, member: Member, function: Function, arguments: Any = (), keywords: Any = {}) -> Any:
         """Starts a thread that calls `function`, and returns the result of `own`, the system's function for starting a thread. The
         thread's first turn is in the loop's next step.
         """
         context = contextvars.copy_context()
-        begun = os.pipe()  # the thread writes a byte to it once it is a member
+        joined = os.pipe()  # the thread writes a byte to it once it is a member
 
         def body() -> None:
             of_run.add(threading.get_ident())
@@ -53,19 +53,19 @@ class Baton:
             member.native_id = str(threading.get_native_id())
             for join in joining:
                 join()
-            os.write(begun[1], b".")
+            os.write(joined[1], b".")
             own_read(member.turn[0], 1)
             try:
                 if not self.is_closing:
-                    context.run(function, *words, **named)
+                    context.run(function, *arguments, **keywords)
             finally:
                 member.has_ended = True
                 of_run.discard(threading.get_ident())
                 os.write(self.back[1], b".")
 
         result = own(body)
-        own_read(begun[0], 1)
-        for end in begun:
+        own_read(joined[0], 1)
+        for end in joined:
             os.close(end)
         return result
 

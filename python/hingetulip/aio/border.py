@@ -36,9 +36,10 @@ def loaded() -> Optional[Any]:
     for path in (None, *paths):  # None stands for what is preloaded
         try:
             library = ctypes.PyDLL(path)
-            for name, (result, *words) in FUNCTIONS.items():
+            for name, (result, *argument_types) in FUNCTIONS.items():
                 function = getattr(library, name)
-                function.restype, function.argtypes = result, words
+                function.restype = result
+                function.argtypes = argument_types
         except (AttributeError, OSError):
             continue
         return library
@@ -77,13 +78,13 @@ def calls() -> Counter[str]:
 def bound_anew(own: Callable[..., Any]) -> Callable[..., Any]:
     """Returns the run's version of a function that loads a C library or module: the loaded code calls the run's functions."""
 
-    def load(*words: Any, **named: Any) -> Any:
+    def load(*arguments: Any, **keywords: Any) -> Any:
         try:
-            return own(*words, **named)
+            return own(*arguments, **keywords)
         finally:
             if LIBRARY is not None:
                 LIBRARY.hinge_border()
-            switch_copy(getattr(words[0], "__name__", ""))
+            switch_copy(getattr(arguments[0], "__name__", ""))
 
     return load
 

@@ -78,14 +78,14 @@ class Descriptors:
     def read(self, own: Function) -> Function:
         """Returns `os.read` for simulated sockets. For other descriptors, a thread of the run yields until they are readable."""
 
-        def read(descriptor: int, *words: Any) -> Any:
+        def read(descriptor: int, *arguments: Any) -> Any:
             if descriptor in self.sockets:
-                return self.sockets[descriptor].recv(*words)
+                return self.sockets[descriptor].recv(*arguments)
             if self.loop.baton.member() is not None and posix.get_blocking(descriptor):
                 poll = select.poll()
                 poll.register(descriptor, READABLE)
                 poll.poll()
-            return own(descriptor, *words)
+            return own(descriptor, *arguments)
 
         return read
 
@@ -102,10 +102,10 @@ class Descriptors:
     def refused(self, own: Function) -> Function:
         """Returns a function that raises RealTimeError for simulated sockets, and calls the system's function for others."""
 
-        def refuse(*words: Any, **named: Any) -> Any:
-            if any(isinstance(word, int) and word in self.sockets for word in words[:2]):
+        def refuse(*arguments: Any, **keywords: Any) -> Any:
+            if any(isinstance(argument, int) and argument in self.sockets for argument in arguments[:2]):
                 raise RealTimeError(NO_COPY)
-            return own(*words, **named)
+            return own(*arguments, **keywords)
 
         return refuse
 

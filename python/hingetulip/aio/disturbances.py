@@ -55,8 +55,8 @@ class Disturbed:
     hosts: dict[str, Host]
     links: dict[tuple[Host, Host], Link]
 
-    def __init__(self, *words: Any, **named: Any) -> None:
-        super().__init__(*words, **named)
+    def __init__(self, *arguments: Any, **keywords: Any) -> None:
+        super().__init__(*arguments, **keywords)
         self.disturbances: list[Disturbance] = []
         """The cuts, holds, crashes and skews of the network."""
 

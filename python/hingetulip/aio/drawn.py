@@ -35,22 +35,22 @@ class Lanes:
         return memoryview(z.to_bytes(LANE * self.count, "little")).cast("I")[:: LANE // 4]
 
 
-AT_FIRST, THEN = Lanes(FEW), Lanes(MANY)
+FIRST_BATCH, LATER_BATCH = Lanes(FEW), Lanes(MANY)
 
 
 def words(place: int) -> Iterator[int]:
     """Yields the words after this place in splitmix64's sequence. The first batch is small, as many links carry few packets."""
-    yield from AT_FIRST.drawn(place)
+    yield from FIRST_BATCH.drawn(place)
     place += FEW * NUMBER
     while True:
         place &= MASK
-        yield from THEN.drawn(place)
+        yield from LATER_BATCH.drawn(place)
         place += MANY * NUMBER
 
 
 def word(seed: int, direction: int, number: int) -> int:
     """Returns the word for the packet with a number, from 1, in a direction."""
-    return AT_FIRST.drawn(seed * SEED + (direction - 1) * DIRECTION + (number - 1) * NUMBER & MASK)[0]
+    return FIRST_BATCH.drawn(seed * SEED + (direction - 1) * DIRECTION + (number - 1) * NUMBER & MASK)[0]
 
 
 class Drawn:

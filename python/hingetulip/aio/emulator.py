@@ -34,7 +34,7 @@ class Way:
         """Stores the properties.
 
         `before` is the length of the headers, and `is_last` says whether the target is at the link's end. `fields` are addresses,
-        protocol and ports as numbers. `kind` is 0 for a pipe and 1 for a queue, which has this `number`.
+        protocol and ports as numbers. `kind` is PIPE or QUEUE, and `number` the number of this pipe or queue.
         """
         self.link = link
         self.before = before
@@ -45,7 +45,7 @@ class Way:
         self._others: Optional[dict[tuple[int, int], Way]] = None
 
     def to(self, kind: int, number: int) -> Way:
-        """Returns the way of the same packets through another pipe (0) or queue (1) of the link."""
+        """Returns the way of the same packets through another pipe or queue of the link. `kind` is PIPE or QUEUE."""
         if self._others is None:
             self._others = {}
         other = self._others.get((kind, number))

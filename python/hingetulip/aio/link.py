@@ -176,7 +176,7 @@ class Link:
         names = []
         if not self.came:
             names += [f"the {name} of {self.name}" for name, function in self.functions.items() if function is not None]
-        return names + [f"the change of {self.name} at {moment:g} s" for moment, came in self.changes if came == self.came]
+        return names + [f"the change of {self.name} at {moment:g} s" for moment, count in self.changes if count == self.came]
 
     def change_class(self, name: str, options: str) -> None:
         """Reconfigures the queue of a class, as in `link.change_class("video", "weight 10")`. LineError: a word is wrong, or there are no

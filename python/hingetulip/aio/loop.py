@@ -227,7 +227,7 @@ class Loop(asyncio.BaseEventLoop):
 def refusing(text: str) -> Callable[..., NoReturn]:
     """Returns a method that raises NotImplementedError with this advice."""
 
-    def refuse(loop: Loop, *words: Any, **named: Any) -> NoReturn:
+    def refuse(loop: Loop, *arguments: Any, **keywords: Any) -> NoReturn:
         raise NotImplementedError(text)
 
     return refuse
@@ -235,7 +235,7 @@ def refusing(text: str) -> Callable[..., NoReturn]:
 
 def receiving(name: str) -> Callable[..., Any]:
     """Returns the loop's method for the method `name` of sockets, which waits for data."""
-    return lambda loop, sock, *words: loop._when_readable(sock, getattr(sock, name), *words)
+    return lambda loop, sock, *arguments: loop._when_readable(sock, getattr(sock, name), *arguments)
 
 
 for name in ("recv", "recv_into", "recvfrom", "recvfrom_into"):

@@ -27,7 +27,7 @@ class Ended(SystemExit):
 
 def quiet(hook: Callable[[Any], object]) -> Callable[[Any], object]:
     """Returns a hook for unhandled exceptions in threads that ignores `Ended`."""
-    return lambda words: None if words.exc_type is Ended else hook(words)
+    return lambda arguments: None if arguments.exc_type is Ended else hook(arguments)
 
 
 def bounded_pipe(seconds: float = PATIENCE) -> tuple[int, int]:

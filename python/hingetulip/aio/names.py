@@ -20,7 +20,8 @@ class Names:
     """The names and addresses of a network's hosts."""
 
     def __init__(self, hosts: dict[str, Host], numbers: dict[str, int]) -> None:
-        self.hosts, self.numbers = hosts, numbers
+        self.hosts = hosts  # by address and name
+        self.numbers = numbers  # addresses as a history's numbers
 
     def address_of(self, name: str, version: int = 4) -> str:
         """Returns a host's address in an IP version, from the host's name; an address of a host stays the same. gaierror: there is no

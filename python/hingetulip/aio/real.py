@@ -50,14 +50,14 @@ class RealUses:
         self.has_threads_of_c = False
         install_hook()
 
-    def count_event(self, event: str, words: Any) -> None:
+    def count_event(self, event: str, arguments: Any) -> None:
         """Counts a call that Python's audit hook reports. RealTimeError: a thread of the run uses a system socket."""
         if event in OF_PROCESSES:
             self.calls[event] += 1
-        elif words[0].family == socket.AF_UNIX:
+        elif arguments[0].family == socket.AF_UNIX:
             return  # reaches programs on this machine only, and counts as a call of C code
         elif threading.get_ident() in of_run:
-            is_tcp = is_stream(words[0]) and words[0].family in (socket.AF_INET, socket.AF_INET6)
+            is_tcp = is_stream(arguments[0]) and arguments[0].family in (socket.AF_INET, socket.AF_INET6)
             why = NO_TCP if is_tcp else SOCKET + ALLOWED
             self.refused[why] += 1
             raise RealTimeError(why)
@@ -80,10 +80,10 @@ class RealUses:
         """
 
         def in_run(own: Function) -> Function:
-            def call(*words: Any, **named: Any) -> Any:
+            def call(*arguments: Any, **keywords: Any) -> Any:
                 if name != SPAWNED or sys._getframe(2).f_globals.get("__name__") != "subprocess":
                     self.calls[name] += 1
-                return own(*words, **named)
+                return own(*arguments, **keywords)
 
             return call
 
@@ -131,9 +131,9 @@ class Sum:
 
     def taken(self) -> Sum:
         """Returns the sum so far, and resets this sum."""
-        made = Sum()
-        made.__dict__, self.__dict__ = self.__dict__, made.__dict__
-        return made
+        total = Sum()
+        total.__dict__, self.__dict__ = self.__dict__, total.__dict__
+        return total
 
 
 OF_PROCESS = Sum()
@@ -165,12 +165,12 @@ COUNTED = frozenset(REACHING + OF_PROCESSES)
 watches: list[RealUses] = []  # the real uses of the run that is under way, if there is a run
 
 
-def hook(event: str, words: Any) -> None:
+def hook(event: str, arguments: Any) -> None:
     """Counts a call as Python's audit hook, and forgets the known C functions at an import."""
     if event == "import":
         note_all.cache_clear()
     if watches and event in COUNTED:
-        watches[-1].count_event(event, words)
+        watches[-1].count_event(event, arguments)
 
 
 @functools.lru_cache(None)

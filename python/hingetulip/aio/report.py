@@ -18,8 +18,8 @@ def report(net: Network) -> str:
     for link in net.links.values():
         count = link.counts
         lines.append(f"{link.name}: {sum(count.values())} sent, {count[Outcome.LOST]} lost, {count[Outcome.FULL]} met a full queue")
-    for what, counts in (("without a way", net.unrouted), ("without a socket", net.unheard), ("refused", net.refused)):
-        lines += [f"{place}: {count} {what}" for place, count in counts.items()]
+    for event, counts in (("without a way", net.unrouted), ("without a socket", net.unheard), ("refused", net.refused)):
+        lines += [f"{place}: {count} {event}" for place, count in counts.items()]
     lines += [f"  {dropped}" for dropped in net.dropped[:MOST_DROPPED]]
     if len(net.dropped) > MOST_DROPPED:
         lines.append(f"  and {len(net.dropped) - MOST_DROPPED} more")

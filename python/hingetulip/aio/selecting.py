@@ -63,9 +63,9 @@ class Selecting:
     def select(self, own: Function) -> Function:
         """Returns `select.select`, which other event loops call without descriptors to wait for their timers."""
 
-        def selected(*words: Any) -> Any:
-            timeout = words[3] if len(words) > 3 else None
-            return self.answer(lambda most: own(*words[:3], most), timeout, ([], [], []), has_own=not any(words[:3]))
+        def selected(*arguments: Any) -> Any:
+            timeout = arguments[3] if len(arguments) > 3 else None
+            return self.answer(lambda most: own(*arguments[:3], most), timeout, ([], [], []), has_own=not any(arguments[:3]))
 
         return selected
 

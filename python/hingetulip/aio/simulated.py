@@ -111,11 +111,11 @@ class TimeFunctions:
 
     def asctime(self, own: Function) -> Function:
         """Returns `time.asctime`, by default for the current moment."""
-        return lambda *words: own(*(words or (time.localtime(),)))
+        return lambda *arguments: own(*(arguments or (time.localtime(),)))
 
     def strftime(self, own: Function) -> Function:
         """Returns `time.strftime`, by default for the current moment."""
-        return lambda form, *words: own(form, *(words or (time.localtime(),)))
+        return lambda form, *arguments: own(form, *(arguments or (time.localtime(),)))
 
     def datetime_now(self, own: Function) -> Function:
         """Returns `datetime.now`."""
@@ -153,7 +153,7 @@ class TimeFunctions:
 
 def bytes_from(source: random.Random) -> Either:
     """Returns a maker of functions for random bytes, such as `os.urandom`, which draw from `source`."""
-    return lambda own: lambda count, *flags, **named: source.randbytes(count)
+    return lambda own: lambda count, *flags, **keywords: source.randbytes(count)
 
 
 def uuid_from(times: TimeFunctions, source: random.Random) -> Either:

@@ -19,7 +19,7 @@ from typing import Any, Callable, Iterator, Mapping, Optional
 
 Function = Callable[..., Any]
 Either = Callable[[Function], Function]  # returns the run's version of a function, from the system's version
-WORDS, NAMED, OF_CLASS = 1, 2, 0x200  # METH_VARARGS, METH_KEYWORDS, METH_METHOD
+VARARGS, KEYWORDS, OF_CLASS = 1, 2, 0x200  # METH_VARARGS, METH_KEYWORDS, METH_METHOD
 HEAD, FIELDS = object.__basicsize__, 5  # the bytes before a C function's fields, and their number
 METHOD, OBJECT, MODULE, FAST = 0, 1, 2, 4  # the places of fields; field 3 contains the weak references, and FAST the fast call
 IN_C = ClassMethodDescriptorType, MethodDescriptorType
@@ -68,7 +68,7 @@ class Changed:
         self.own: Function = new_function(*self.original_fields[: MODULE + 1])  # a copy of the function, which no run changes
         self.method = Method.from_buffer_copy(Method.from_address(self.original_fields[METHOD]))
         self.method.function = call
-        self.method.flags = WORDS | NAMED
+        self.method.flags = VARARGS | KEYWORDS
         self.version: Optional[Function] = None  # a reference to the last run's version, in which another thread may still be
 
 
@@ -128,8 +128,8 @@ def of_thread(own: Function, in_run: Either) -> Function:
     """Returns a function that calls the run's version in the run's threads, and the system's version (`own`) in others."""
     version, ident, threads = in_run(own), threading.get_ident, of_run  # local names, which are faster
 
-    def function(*words: Any, **named: Any) -> Any:
-        return (version if ident() in threads else own)(*words, **named)
+    def function(*arguments: Any, **keywords: Any) -> Any:
+        return (version if ident() in threads else own)(*arguments, **keywords)
 
     return function
 
@@ -149,9 +149,9 @@ def switch_function(change: Changed, in_run: Either) -> Callable[[], None]:
     return back
 
 
-def bound(own: ClassMethodDescriptorType, kind: type, *words: Any, **named: Any) -> Any:
+def bound(own: ClassMethodDescriptorType, kind: type, *arguments: Any, **keywords: Any) -> Any:
     """Returns the result of calling a C class method for a class."""
-    return own.__get__(None, kind)(*words, **named)
+    return own.__get__(None, kind)(*arguments, **keywords)
 
 
 def switch_method(kind: type, name: str, in_run: Either) -> Callable[[], None]:

@@ -37,7 +37,7 @@ def is_virtual(family: int, type: int, fileno: object) -> bool:
 
 def by_acquire(own: Function) -> Function:
     """Returns the run's version of another name for a lock's `acquire`, which calls the run's `acquire`."""
-    return lambda *words, **named: getattr(own, "__objclass__").acquire(*words, **named)
+    return lambda *arguments, **keywords: getattr(own, "__objclass__").acquire(*arguments, **keywords)
 
 
 def acquire_restore(own: Function) -> Function:

@@ -36,7 +36,7 @@ class ThreadFunctions:
 
     def start_new_thread(self, own: Function) -> Function:
         """Returns the function that starts a thread in all versions of Python."""
-        return lambda *words: self.baton.start(lambda body: own(body, ()), Member(), *words)
+        return lambda *arguments: self.baton.start(lambda body: own(body, ()), Member(), *arguments)
 
     def start_joinable_thread(self, own: Function) -> Function:
         """Returns the function that starts `threading`'s threads from Python 3.13 on."""

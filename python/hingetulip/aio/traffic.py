@@ -12,6 +12,7 @@ from hingetulip.aio.emulator import Emulator, Way
 from hingetulip.aio.endpoint import fault
 from hingetulip.aio.extra import IS_LOST, IS_TWICE, LOSES_NONE
 from hingetulip.aio.routes import Routes
+from hingetulip.layout import PIPE, QUEUE
 from hingetulip.library import NEVER
 from hingetulip.records import Outcome
 
@@ -84,7 +85,7 @@ class Traffic:
         if datagram.__class__ is Refusal:
             proto, sport, dport = ICMP, 0, 0
         fields = self.numbers[source], self.numbers[target], proto, sport, dport
-        return Way(link, headers(target), target in link.far.addresses, fields, 0, link.pipe)
+        return Way(link, headers(target), target in link.far.addresses, fields, PIPE, link.pipe)
 
     def _send_otherwise(self, near: Host, datagram: Datagram, is_heard: bool) -> Optional[OSError]:
         """Sends a datagram to the same host, to a group, or to an unknown address; returns the system's error, if any."""
@@ -145,7 +146,7 @@ class Traffic:
             words = link.loss
         else:
             queue = link.queues[link.classify(datagram)]
-            way, words = way.to(1, queue), link.class_words[queue]
+            way, words = way.to(QUEUE, queue), link.class_words[queue]
         if now + link.delay < self.next_moment:  # otherwise the run asks the shaper again before the packet is due
             self.changed = True
         outcome, packet = self._emulator.submit(way, now, length, LOSES_NONE if is_second else words.next())
@@ -162,7 +163,7 @@ class Traffic:
         self.rows += 1
         self.changed = True
         length = len(datagram.data) + way.before
-        outcome, packet = self._emulator.submit(way.to(0, pipe), self.loop.clock.now, length, LOSES_NONE)
+        outcome, packet = self._emulator.submit(way.to(PIPE, pipe), self.loop.clock.now, length, LOSES_NONE)
         self._hold(outcome, packet, way, datagram, 0)
 
     def _hold(self, outcome: int, packet: int, way: Way, datagram: Datagram, number: int) -> None:
