@@ -39,7 +39,7 @@ class Audit(Closing):
     """
 
     def __init__(self, limit: int = HISTORY_LIMIT) -> None:
-        """Begins an audit of a text with at most `limit` bytes. The verdict doesn't depend on the secret key of the table of flows.
+        """Begins an audit of a text with at most `limit` bytes. Each audit draws a key for the flow table, which changes no verdict.
 
         RangeError: the limit isn't in 0 to 2^64 - 1.
         """

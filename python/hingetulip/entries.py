@@ -29,8 +29,8 @@ class EntryCall(IntEnum):
 class EntryReply(IntEnum):
     """The kind of a reply, which determines the reply's content.
 
-    REFUSED: a reason. CONFIGURED and DELETED: nothing, as the line had its effect. FATE: the packet's fate. CLOCK: the clock.
-    DELIVERIES: the clock and the due packets. FLOWS: the states of flows.
+    REFUSED: the reason for the refusal. CONFIGURED and DELETED: no content, since the line took effect. FATE: the packet's fate.
+    CLOCK: the clock. DELIVERIES: the clock and the due packets. FLOWS: the states of flows.
     """
 
     REFUSED = 0

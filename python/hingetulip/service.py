@@ -41,9 +41,9 @@ def retried(call: Callable[..., int], *arguments: Any) -> int:
 
 
 class Caller(Calls):
-    """A caller of a service. Threads may share it: a call waits for other threads' calls.
+    """Calls a service, with the same methods as Shaper. Threads may share a caller: a call waits for other threads' calls.
 
-    Its calls are those of Shaper. Each reply includes all calls that this caller's earlier replies included.
+    Each reply includes the effects of all calls whose effects this caller's earlier replies included.
     """
 
     def __init__(self, calls: PyDLL, handle: Any, number: int, seed: Optional[int]) -> None:
@@ -101,7 +101,7 @@ class Service(Closing):
     """
 
     def __init__(self, callers: int, seed: Optional[int] = None) -> None:
-        """Opens a service of 1 to 15 callers, numbered from 0. `seed` determines the words of packets without one.
+        """Opens a service of 1 to 15 callers, numbered from 0. `seed` determines the random words of packets without a word.
 
         RangeError: the count is outside that range.
         """
@@ -123,7 +123,7 @@ class Service(Closing):
         )
 
     def history(self, path: Union[str, PathLike[str]]) -> None:
-        """Sets the history's file, which is created or emptied. ValueError: the history has a file already, or `take` has moved entries
+        """Sets the history's file, which is created or emptied. ValueError: there is a file already, or `take` has moved entries
         before.
         """
         with self._turn:

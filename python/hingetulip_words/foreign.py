@@ -35,7 +35,7 @@ UNITS: dict[str, Mapping[str, Union[int, Fraction]]] = {
 
 
 def number(text: str, unit: str) -> Optional[Fraction]:
-    """Returns the number in a text in ms, bit/s, bytes or percent; None for other texts. `unit` names a row of UNITS."""
+    """Returns the number in a text in ms, bit/s, bytes or percent; None for other texts. `unit` is a key of UNITS."""
     parts = re.fullmatch(NUMBER, text.lower())
     if parts is None:
         return None
@@ -56,7 +56,7 @@ class Meant:
     """The link that another tool's words describe. `left` lists the words that no link supports, and `rest` names and the command."""
 
     def __init__(self, tool: str, words: Sequence[str]) -> None:
-        """Reads all words. `tool` is the name of a row in the table of tools."""
+        """Reads all words of a tool in the table."""
         self.tool = tool
         self.kinds = TOOLS[tool].kinds
         self.rest = list[str]()
@@ -123,7 +123,7 @@ class Meant:
                 self.leave(f"{kind.name} {value}")
 
     def next_value(self, kind: Kind) -> Optional[str]:
-        """Reads a value that no link has, and returns it; None if there is none. A correlation is a percentage."""
+        """Reads the next word as an unsupported value, and returns the word; None if it isn't such a value. A correlation is a percentage."""
         if not self.is_value() or (kind.name == "correlation" and number(self.words[0], "%") is None):
             return None
         return self.words.pop(0)
@@ -139,7 +139,7 @@ class Meant:
                 return
 
     def read_file(self, option: str) -> None:
-        """Reads the file name of a way's trace, or the bandwidth that people also write there. Options may precede it."""
+        """Reads options, and then the file of a way's trace, or the bandwidth that people also write there."""
         while self.words and self.words[0].startswith("--"):
             self.read()
         text = self.words.pop(0) if self.is_value() else ""
@@ -160,7 +160,7 @@ class Meant:
             properties[name] = properties.get(name, Fraction(0)) + value
 
     def leave(self, text: str) -> None:
-        """Notes what no link supports, once."""
+        """Adds a text to `left`, unless the list contains the text."""
         if text not in self.left:
             self.left.append(text)
 
@@ -184,7 +184,7 @@ class Meant:
         return " ".join(words)
 
     def time_words(self, name: str, ms: Fraction) -> list[str]:
-        """Returns the words for a delay or jitter in ms; none for a part of a ms, which it notes."""
+        """Returns the words for a delay or jitter in whole ms, or an empty list, after adding other times to `left`."""
         if ms.denominator == 1:
             return [f"{name}{ms}ms"]
         self.leave(f"{name or 'delay '}{plain(ms)}ms, as a link has whole milliseconds")

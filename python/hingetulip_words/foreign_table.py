@@ -1,4 +1,4 @@
-"""The table of other tools' words for links, with the kinds of their values."""
+"""Lists other tools' words for links, with the kinds of their values."""
 
 from __future__ import annotations
 
@@ -56,10 +56,10 @@ class Kind(NamedTuple):
 
 
 class Tool(NamedTuple):
-    """Another tool: the way that it slows, and the kinds of values after each of its words."""
+    """A tool in the table."""
 
-    way: str
-    kinds: dict[str, list[Kind]]
+    way: str  # the way of a link that the tool slows: `up`, `down` or `both`
+    kinds: dict[str, list[Kind]]  # the kinds of values after each word
 
 
 def kind_of(text: str) -> Kind:

@@ -62,7 +62,7 @@ def wrong_word(word: str, context: Context) -> Wrong:
 
 
 def in_place(advice: Advice, context: Context) -> Advice:
-    """Returns the advice; for a single way (direction) in a change of a link, its right words are those of a change."""
+    """Returns the advice. The advice for a single way (direction) of a link has other words if the text is a change of a link."""
     if advice is ONE_WAY and context.is_change:
         return advice._replace(right="write up LINK, and down LINK in a line of its own")
     return advice

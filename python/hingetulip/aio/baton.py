@@ -145,7 +145,7 @@ class Baton:
         return self.until() > self.loop.clock.now + 1
 
     def look(self) -> None:
-        """Counts a look of the loop's thread that met nothing. RealTimeError: the thread looks again and again, as if waiting."""
+        """Counts an unsuccessful look of the loop's thread. RealTimeError: the thread looks again and again, as if waiting."""
         self.loop.clock.looks += 1
         if self.loop.clock.looks > MOST_LOOKS:
             raise RealTimeError(BLOCKS + ALLOWED)

@@ -80,7 +80,7 @@ class Clock:
         return descriptors.ready() if waits else ()
 
     def close(self) -> None:
-        """Does nothing; the loop expects this method of a selector."""
+        """Does nothing. The loop expects that a selector has this method."""
 
     def _move(self, moment: int) -> None:
         """Moves the clock to a later moment. Stuck: the moment is NEVER, as no event can happen any more."""

@@ -92,11 +92,11 @@ class Disturbed:
         return self.disturb(CUT, seconds, *self._links_of(of, CUT))
 
     def hold(self, of: Union[Host, str], seconds: float) -> Disturbance:
-        """Makes packets wait before the links of a host, or before a single link, for this time. ValueError: as from `cut`."""
+        """Makes packets wait before the links of a host, or before a single link, for this time. ValueError: the same as from `cut`."""
         return self.disturb(HOLD, seconds, *self._links_of(of, HOLD))
 
     def disturb(self, kind: str, seconds: float, name: str, links: list[Link]) -> Disturbance:
-        """Begins a cut or a hold of links; returns it."""
+        """Begins a cut or a hold of these links, under a name for them; returns the disturbance."""
         disturbance = Disturbance(self, kind, name, seconds)
         for link in links:
             link.begin(disturbance)
@@ -123,6 +123,6 @@ class Disturbed:
         return [disturbance.report() for disturbance in self.disturbances if not disturbance.met and not disturbance.is_drawn]
 
     def check(self) -> None:
-        """Checks the effects of disturbances. Unmet: a disturbance that code requested had no effect."""
+        """Checks that each requested disturbance had an effect. Unmet: a disturbance had none."""
         if lines := self.unmet_faults():
             raise Unmet("\n".join(lines))

@@ -147,7 +147,7 @@ class Link:
         self.net.loop.call_later(disturbance.seconds, self._end, disturbance, current)
 
     def _end(self, disturbance: Disturbance, current: list[Disturbance]) -> None:
-        """Ends one of the current cuts or holds."""
+        """Ends a cut or a hold, which is in the list `current`."""
         current.remove(disturbance)
         self._apply(disturbance)
 

@@ -21,7 +21,7 @@ class Method(ctypes.Structure):
 
 
 def libcrypto() -> Optional[ctypes.CDLL]:
-    """Returns this process's libcrypto. Returns None if it isn't loaded, or if it has no function that replaces its random numbers."""
+    """Returns this process's libcrypto; None if the library isn't loaded, or lacks the function that replaces random numbers."""
     path = LOADED.search(Path("/proc/self/maps").read_text())
     if path is None:
         return None

@@ -18,7 +18,7 @@ NAMES = {  # the loop's functions, and the private names in each
 
 
 def changed(functions: Mapping[str, object]) -> list[str]:
-    """Returns a text for each name that a function of the loop no longer uses. `functions` are the loop's, by name."""
+    """Returns a text for each name that a function of the loop no longer uses. `functions` contains the loop's functions."""
     faults = []
     for function, names in NAMES.items():
         code = functions.get(function)
@@ -28,7 +28,7 @@ def changed(functions: Mapping[str, object]) -> list[str]:
 
 
 def check() -> None:
-    """Checks this Python. ImportError: its event loop or its C functions differ from those that this package supports."""
+    """Checks this Python. ImportError: this package doesn't support the event loop, or the layout of C functions."""
     faults = changed(vars(asyncio.BaseEventLoop))
     if not is_known():
         faults.append("other functions in C, or no GIL")

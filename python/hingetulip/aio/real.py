@@ -75,8 +75,8 @@ class RealUses:
         return True
 
     def counted(self, name: str) -> Either:
-        """Returns the version of a function without an audit event that counts its calls. The module `subprocess` has its own event, so
-        its calls don't count here.
+        """Returns the maker of a version that counts calls, for a function without an audit event. Calls from the module `subprocess`
+        don't count here, since an audit event of that module counts them.
         """
 
         def in_run(own: Function) -> Function:
@@ -124,7 +124,7 @@ class Sum:
         self.refused = 0
 
     def add(self, calls: Counter[str], refused: int) -> None:
-        """Adds a run with its calls and its number of refusals."""
+        """Adds a run's calls, and its number of refusals."""
         self.runs += 1
         self.calls = self.calls + calls
         self.refused += refused

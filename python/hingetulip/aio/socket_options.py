@@ -1,4 +1,4 @@
-"""Sets and returns the options of simulated datagram sockets, of which some have an effect."""
+"""Sets and returns the options of simulated datagram sockets. Only some options have an effect."""
 
 from __future__ import annotations
 

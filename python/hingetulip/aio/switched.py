@@ -45,7 +45,7 @@ class Method(Structure):
 
 
 def fields_of(function: object) -> Any:
-    """Returns the fields of a C function, in its memory."""
+    """Returns the fields of a C function, as an array over the function's memory."""
     return (c_void_p * FIELDS).from_address(id(function) + HEAD)
 
 
@@ -99,7 +99,7 @@ def note_all() -> None:
 
 
 def switch_copy(name: str) -> None:
-    """Changes the C functions of a newly loaded module, by its name, if the module is a copy of a known module."""
+    """Changes the C functions of a newly loaded module with this name, if the module is a copy of a known module."""
     if any(name == module for module, _ in (*known, *kinds)):
         note_all.cache_clear()
         for change in changing:

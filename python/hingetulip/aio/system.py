@@ -52,7 +52,7 @@ def acquire_restore(own: Function) -> Function:
 
 @contextmanager
 def threads_held(baton: Baton) -> Iterator[None]:
-    """Makes threads of the run yield instead of waiting, within the context."""
+    """Makes the run's threads yield instead of waiting, within the context."""
     in_run = ThreadFunctions(baton)
     functions: dict[Any, Either] = {
         (Lock, "acquire"): in_run.acquire,
