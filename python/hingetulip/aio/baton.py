@@ -89,7 +89,7 @@ class Baton:
             return self._yield(member, ready, seconds)
         until = own_time() + (LONGEST if seconds is None else seconds)
         for _ in range(MOST_TURNS):
-            if not self.turns() and not (own_time() < until and self.holds()):
+            if not self.turns() and not (own_time() < until and self.pauses_clock()):
                 break
             if ready():
                 return True
@@ -135,9 +135,9 @@ class Baton:
         """Returns the current thread as a member; None in the loop's thread."""
         return self.members.get(threading.get_ident())
 
-    def holds(self) -> bool:
-        """Pauses for a short real time if a member waits for a process. Returns whether the clock must stand still for that member,
-        which it needn't if another member's wait ends within the next ns.
+    def pauses_clock(self) -> bool:
+        """Lets a short real time pass if a member waits for a process. Returns whether the clock must stand still for that member: not
+        if another member's wait ends within the next ns.
         """
         if not any(member.is_held() for member in self.members.values()):
             return False

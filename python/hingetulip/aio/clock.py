@@ -61,7 +61,7 @@ class Clock:
         waits = descriptors.readers or descriptors.writers
         if waits and descriptors.ready():
             timeout = 0
-        if timeout != 0 and baton.members and baton.holds():
+        if timeout != 0 and baton.members and baton.pauses_clock():
             return ()
         wake = net.wake() if net.changed else net.next_moment
         if baton.members:

@@ -182,7 +182,7 @@ class DatagramSocket(HostlessSocket):
         endpoint = self._place()
         if endpoint.remote is None:
             raise fault(errno.ENOTCONN)
-        return endpoint.written(endpoint.remote)
+        return endpoint.own_form(endpoint.remote)
 
     def _take_error(self) -> Optional[OSError]:
         """Returns the error from a closed port, and clears it; None if there is none."""
@@ -242,7 +242,7 @@ class DatagramSocket(HostlessSocket):
         """
         endpoint = self._await(flags)
         datagram = self._queue[0] if flags & socket.MSG_PEEK else self._queue.popleft()
-        return datagram.data[:bufsize], endpoint.written(datagram.source)
+        return datagram.data[:bufsize], endpoint.own_form(datagram.source)
 
     def recv(self, bufsize: int, flags: int = 0) -> bytes:
         return self.recvfrom(bufsize, flags)[0]

@@ -24,7 +24,7 @@ class Disturbance:
     Disturbances that a seed drew (`is_drawn`) may have no effect.
     """
 
-    def __init__(self, net: Disturbed, kind: str, of: str, seconds: float) -> None:
+    def __init__(self, net: DisturbingCalls, kind: str, of: str, seconds: float) -> None:
         """Adds the disturbance to the network's. `of` is the name of a host or link. ValueError: `seconds` is no finite number, or,
         except for a skew, isn't above 0.
         """
@@ -48,7 +48,7 @@ class Disturbance:
         return f"{self}: it met {self.met or 'no'} {MET.get(self.kind, 'packet')}{plural}"
 
 
-class Disturbed:
+class DisturbingCalls:
     """A network's calls for disturbances."""
 
     loop: Loop

@@ -68,7 +68,7 @@ class Endpoint:
         address, port = self.local
         if self.remote:
             address = self.source_to(self.remote[0])
-        return self.written((address, port))
+        return self.own_form((address, port))
 
     def source_to(self, target: str) -> str:
         """Returns the source address for datagrams to a target, or an empty text if the host lacks an address of that version."""
@@ -79,7 +79,7 @@ class Endpoint:
             return self.host.address_of_6 or ""
         return self.host.address
 
-    def written(self, address: Address) -> tuple[Any, ...]:
+    def own_form(self, address: Address) -> tuple[Any, ...]:
         """Returns an address and port in the form of this socket's family."""
         if self.version == 4:
             return address

@@ -13,7 +13,7 @@ from typing import Any, Callable, Coroutine, Mapping, Optional, TypeVar, Union
 
 from hingetulip.aio.addresses import number
 from hingetulip.aio.datagram import MOST_BYTES, Datagram
-from hingetulip.aio.disturbances import Disturbed
+from hingetulip.aio.disturbances import DisturbingCalls
 from hingetulip.aio.extra import DelayOf, IsTwice, LateOf, of_words
 from hingetulip.aio.host import Host
 from hingetulip.aio.link import Classifier, Link, Words
@@ -36,7 +36,7 @@ START = 1_700_000_000  # s since 1970
 PATIENCE = 3600  # s of simulated time in which cancelled tasks must end when the network is closed
 
 
-class Network(Disturbed, Traffic):
+class Network(DisturbingCalls, Traffic):
     """Hosts and links in simulated time. When the network closes, the file `history` contains the calls to the emulator.
 
     `dropped` lists the datagrams that were lost on links or dropped at full queues. `unrouted` counts datagrams without a

@@ -74,15 +74,19 @@ class TimeFunctions:
         self.clock = loop.clock
         self.start = loop.net.start
 
-    def now(self) -> int:
-        """Returns the ns since the run's beginning. RealTimeError: code keeps asking for the time within a single step of the loop."""
+    def count_look(self) -> None:
+        """Counts a look at the clock. RealTimeError: code keeps asking for the time within a single step of the loop."""
         clock = self.clock
         clock.asked += 1
         if clock.asked == OFTEN:
             clock.asked_since = own_time()
         elif clock.asked > OFTEN and own_time() - clock.asked_since > LONG:
             raise RealTimeError(STILL)
-        return clock.now
+
+    def now(self) -> int:
+        """Returns the ns since the run's beginning."""
+        self.count_look()
+        return self.clock.now
 
     def ns(self) -> int:
         """Returns the ns since 1970 on the current host."""
@@ -90,7 +94,7 @@ class TimeFunctions:
 
     def steady_seconds(self) -> float:
         """Returns the seconds since the run's beginning."""
-        self.now()  # counts the look at the clock
+        self.count_look()
         return self.clock.seconds
 
     def seconds(self) -> float:

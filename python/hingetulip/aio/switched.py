@@ -58,7 +58,7 @@ def is_known() -> bool:
     )
 
 
-class Changed:
+class SwitchableFunction:
     """A C function whose fields a run may change, with a copy of the original."""
 
     def __init__(self, function: object) -> None:
@@ -74,8 +74,8 @@ class Changed:
 
 known: dict[tuple[str, str], dict[int, Any]] = {}  # C functions, by the names of module and function, and by the module's identity
 kinds: dict[tuple[str, str], set[type]] = {}  # C types, by the names of module and type
-changes: dict[int, Changed] = {}  # the functions that runs may change, by their identities
-changing: list[Callable[[], None]] = []  # the function that changes the copies that a run loads, if a run is under way
+switchables: dict[int, SwitchableFunction] = {}  # the functions that runs may change, by their identities
+switchers: list[Callable[[], None]] = []  # the function that changes the copies that a run loads, if a run is under way
 
 
 def note(thing: Any) -> None:
@@ -91,8 +91,8 @@ def note(thing: Any) -> None:
 
 @functools.lru_cache(1)
 def note_all() -> None:
-    """Adds all C functions and types, again after each import. Libraries such as eventlet load a second copy of a module to get its
-    original functions.
+    """Adds all C functions and types that exist, again after each import. Libraries such as eventlet load a second copy of a module, to
+    have its original functions.
     """
     for thing in gc.get_objects():
         note(thing)
@@ -102,11 +102,11 @@ def switch_copy(name: str) -> None:
     """Changes the C functions of a newly loaded module with this name, if the module is a copy of a known module."""
     if any(name == module for module, _ in (*known, *kinds)):
         note_all.cache_clear()
-        for change in changing:
-            change()
+        for switch_all in switchers:
+            switch_all()
 
 
-def changed(module: ModuleType, name: str) -> list[Changed]:
+def switchable(module: ModuleType, name: str) -> list[SwitchableFunction]:
     """Returns the C functions with a name in a module and in its copies, even if the name now refers to another function. Omits
     functions that can't be changed.
     """
@@ -114,14 +114,16 @@ def changed(module: ModuleType, name: str) -> list[Changed]:
     note(getattr(module, name, None))
     functions = known.get((module.__name__, name), {}).values()
     for function in functions:
-        if id(function) not in changes and not Method.from_address(fields_of(function)[METHOD]).flags & OF_CLASS:
-            changes[id(function)] = Changed(function)
-    return [changes[id(function)] for function in functions if id(function) in changes]
+        if id(function) not in switchables and not Method.from_address(fields_of(function)[METHOD]).flags & OF_CLASS:
+            switchables[id(function)] = SwitchableFunction(function)
+    return [switchables[id(function)] for function in functions if id(function) in switchables]
 
 
 def own_of(module: ModuleType, name: str) -> Function:
     """Returns a copy of a module's function, which no run changes."""
-    return next((change.own for change in changed(module, name)), getattr(module, name))
+    functions = switchable(module, name)
+    own: Function = functions[0].own if functions else getattr(module, name)
+    return own
 
 
 def of_thread(own: Function, in_run: Either) -> Function:
@@ -134,13 +136,13 @@ def of_thread(own: Function, in_run: Either) -> Function:
     return function
 
 
-def switch_function(change: Changed, in_run: Either) -> Callable[[], None]:
+def switch_function(function: SwitchableFunction, in_run: Either) -> Callable[[], None]:
     """Makes a C function call the run's version in the run's threads; returns a function that restores the original."""
-    fields, originals = change.fields, change.original_fields
-    version = of_thread(change.own, in_run)
-    change.version = version
+    fields, originals = function.fields, function.original_fields
+    version = of_thread(function.own, in_run)
+    function.version = version
     pythonapi.Py_IncRef(version)  # the field OBJECT refers to the version from now on
-    fields[METHOD], fields[OBJECT], fields[FAST] = addressof(change.method), id(version), None
+    fields[METHOD], fields[OBJECT], fields[FAST] = addressof(function.method), id(version), None
 
     def back() -> None:
         fields[METHOD], fields[OBJECT], fields[FAST] = originals[METHOD], originals[OBJECT], originals[FAST]
@@ -189,7 +191,7 @@ def switched(functions: Mapping[tuple[Any, str], Either]) -> Iterator[None]:
     wanted = [(in_c(place, name), name, in_run) for (place, name), in_run in functions.items()]
 
     def switch_functions(module: ModuleType, name: str, in_run: Either) -> None:
-        for function in changed(module, name):
+        for function in switchable(module, name):
             if id(function) not in backs:
                 backs[id(function)] = switch_function(function, in_run)
 
@@ -198,7 +200,7 @@ def switched(functions: Mapping[tuple[Any, str], Either]) -> Iterator[None]:
             if (kind, name) not in backs:
                 backs[kind, name] = switch_method(kind, name, in_run)
 
-    def change() -> None:
+    def switch_all() -> None:
         note_all()
         for place, name, in_run in wanted:
             if isinstance(place, ModuleType):
@@ -206,11 +208,11 @@ def switched(functions: Mapping[tuple[Any, str], Either]) -> Iterator[None]:
             else:
                 switch_methods(place, name, in_run)
 
-    changing.append(change)
+    switchers.append(switch_all)
     try:
-        change()
+        switch_all()
         yield
     finally:
-        changing.remove(change)
+        switchers.remove(switch_all)
         for back in backs.values():
             back()

@@ -26,7 +26,7 @@ class Transport(asyncio.DatagramTransport):
         self.protocol = protocol
         self.socket = socket
         remote = endpoint.remote
-        super().__init__({"sockname": endpoint.name(), "peername": remote and endpoint.written(remote)})
+        super().__init__({"sockname": endpoint.name(), "peername": remote and endpoint.own_form(remote)})
         self.closing = False
         self.context = contextvars.copy_context()
         self.loop = self.host.net.loop
@@ -83,7 +83,7 @@ class Transport(asyncio.DatagramTransport):
         if not self.closing:
             source = datagram.source
             if self.endpoint.version != 4:
-                source = self.endpoint.written(source)  # type: ignore[assignment]
+                source = self.endpoint.own_form(source)  # type: ignore[assignment]
             self.protocol.datagram_received(datagram.data, source)
 
     def refuse(self, fault: OSError) -> None:
