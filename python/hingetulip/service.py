@@ -75,15 +75,15 @@ class Caller(Calls):
 
     def _due(self) -> Any:
         succeed(self._collect(self._moment, byref(self._number)))
-        return self._kept(self._calls.dn_caller_deliveries, DELIVERY)
+        return self._last_records(self._calls.dn_caller_deliveries, DELIVERY)
 
     def _flows(self) -> Any:
         succeed(self._show(byref(self._number)))
-        return self._kept(self._calls.dn_caller_flows, FLOW)
+        return self._last_records(self._calls.dn_caller_flows, FLOW)
 
-    def _kept(self, copy_records: Callable[..., int], layout: Layout) -> Union[Array[c_char], memoryview]:
-        """Returns the records that the caller keeps after its last call, whose number is in `_number`. `copy_records` is the library's
-        function that copies them.
+    def _last_records(self, copy_records: Callable[..., int], layout: Layout) -> Union[Array[c_char], memoryview]:
+        """Returns the records of the last call, which the library keeps for this caller. `copy_records` is the library's function that
+        copies them, and `_number` contains their number.
         """
         count = self._number.value
         if count == 0:

@@ -37,7 +37,9 @@ class Baton:
         self.back = bounded_pipe()  # a member writes a byte to it when it waits or ends
         self.is_closing = False  # whether each member ends at its next turn
         self.is_leaving = False  # whether members continue outside the run, instead of ending
-        self.lost: Optional[str] = None  # an error, or an empty text for none, once a member has left the run without ending
+        self.lost: Optional[
+            str
+        ] = None  # once a member has left the run without ending: the error, or an empty text if there is none
         self.members: dict[int, Member] = {}  # by the threads' identifiers
 
     def start(self, own: Function, member: Member, function: Function, arguments: Any = (), keywords: Any = {}) -> Any:
@@ -72,11 +74,11 @@ class Baton:
     def wait(
         self, ready: Ready, seconds: Optional[float] = None, really: Optional[Really] = None, is_of_process: bool = False
     ) -> bool:
-        """Yields until the condition `ready` is true, for at most `seconds`; returns whether it is true. With `is_of_process`, the
-        clock stands still if a process of the run may make the condition true.
+        """Yields until the condition `ready` is true, for at most `seconds`; returns whether the condition is true. With
+        `is_of_process`, the clock stands still while processes of the run exist, since they may make the condition true.
 
-        The loop's thread can't yield: it lets the members run, and then waits with `really`. RealTimeError: neither makes the
-        condition true.
+        The loop's thread can't yield: it lets the members run as long as they can, and then returns the result of `really`, a wait in
+        real time. RealTimeError: there is no such wait, or the wait can't succeed.
         """
         if ready():
             return True
@@ -151,13 +153,13 @@ class Baton:
             raise RealTimeError(BLOCKS + ALLOWED)
 
     def step(self) -> bool:
-        """Lets each ready member run; returns whether there was one. RealTimeError: a member has left the run."""
+        """Lets the members run in turn, as `turns` does. RealTimeError: a member waited for something real for too long."""
         if not self.lost or self.loop.net.closing:
             return self.turns()
         raise RealTimeError(self.lost)
 
     def turns(self) -> bool:
-        """Lets each member run whose condition is true or whose time is over; returns whether there was one."""
+        """Lets each member run whose condition is true or whose time is over; returns whether any member ran."""
         has_turned = False
         for ident, member in list(self.members.items()):
             member.is_ready = member.ready()

@@ -28,12 +28,12 @@ FUNCTIONS = {  # the library's functions, each with the types of its result and 
 
 
 def loaded() -> Optional[Any]:
-    """Returns hinge-clock.so: preloaded, from the path in HINGE_CLOCK, or built or installed with this package. Returns None if there
-    is no such library.
+    """Returns the library hinge-clock.so if it is preloaded, or else loads it from the path in HINGE_CLOCK, or from the folders in
+    PLACES without that variable. Returns None if there is no such library.
     """
     own = os.environ.get("HINGE_CLOCK")
     paths = [own] if own else [str(PYTHON / place / "hinge-clock.so") for place in PLACES]
-    for path in (None, *paths):  # None stands for what is preloaded
+    for path in (None, *paths):  # None stands for the process with its preloaded libraries
         try:
             library = ctypes.PyDLL(path)
             for name, (result, *argument_types) in FUNCTIONS.items():

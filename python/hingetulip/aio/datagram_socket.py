@@ -24,9 +24,9 @@ Buffer = Any  # an object that a memoryview accepts
 
 
 class DatagramSocket(HostlessSocket):
-    """A host's datagram socket; the first task that uses the socket decides the host.
+    """A simulated datagram socket. Its host is that of the first task that uses the socket.
 
-    The socket gets a descriptor on request, for `loop.add_reader` and `select`.
+    The socket only opens a descriptor if code needs one, for `loop.add_reader` or `select`.
     """
 
     net: Network
@@ -51,12 +51,12 @@ class DatagramSocket(HostlessSocket):
     @classmethod
     def of(cls, endpoint: Endpoint) -> DatagramSocket:
         """Returns a socket for a transport's endpoint, which lets users set options."""
-        made = cls.__new__(cls)
-        cls.__init__(made, socket.AF_INET6 if endpoint.version == 6 else socket.AF_INET, socket.SOCK_DGRAM)
-        made.net = endpoint.host.net
-        made._endpoint = endpoint
-        made._timeout = 0.0
-        return made
+        new = cls.__new__(cls)
+        cls.__init__(new, socket.AF_INET6 if endpoint.version == 6 else socket.AF_INET, socket.SOCK_DGRAM)
+        new.net = endpoint.host.net
+        new._endpoint = endpoint
+        new._timeout = 0.0
+        return new
 
     def _place(self, host: Optional[Host] = None) -> Endpoint:
         """Returns the socket's endpoint. The first call creates the endpoint, on `host` or the current host.

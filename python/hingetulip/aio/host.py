@@ -4,6 +4,7 @@ from __future__ import annotations
 
 import contextvars
 import errno
+import inspect
 from collections import Counter
 from typing import TYPE_CHECKING, Any, Callable, Coroutine, Optional, TypeVar
 
@@ -30,6 +31,13 @@ def current_host() -> Host:
         return here.get()
     except LookupError:
         raise RuntimeError("this task runs on no host: make it by host.create_task") from None
+
+
+def check_host(end: object) -> None:
+    """Checks that the end of a link is a host. TypeError: it is another object, such as a coroutine that would return the host."""
+    if not isinstance(end, Host):
+        hint = "; run what makes it by sim_net.run" if inspect.isawaitable(end) or inspect.isasyncgen(end) else ""
+        raise TypeError(f"a link is between two hosts, and {end!r} is none{hint}")
 
 
 class Host:

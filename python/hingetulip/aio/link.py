@@ -71,25 +71,31 @@ class Link:
         self.late: dict[int, int] = {}  # packets' extra ms, by their numbers
         self.pipes: dict[int, int] = {}  # second passes' pipes, by ms; each counts towards the network's limit of 65,535
         self.loss: Words = Drawn(net.seed, self.pipe) if loss is None else loss
-        bind = getattr(loss, "bind", None)  # a model without a seed uses the network's, and a link's pipe as direction
-        if bind is not None:
-            bind(net.seed, self.pipe)
-        if hasattr(loss, "clock"):  # a model that depends on the time
-            setattr(loss, "clock", net.loop.time)
         self.has_model = loss is not None
+        self._bind_model()
         self.functions = {"loss": loss, "copies": copies, "jitter": jitter, "classes": classes}  # the arguments, for `idle`
         self.changes = list[tuple[float, int]]()  # for each change after a packet: the time, and the number of packets before
         self.options = self.begun = Options(options, has_model=self.has_model, place=Place.RUN)
         self.class_options = {name: Options(text, "queue", self.has_model) for name, text in (classes or {}).items()}
-        self.class_words: dict[int, Words] = {
-            number: Drawn(net.seed, QUEUES + number) if loss is None else loss for number in self.queues.values()
-        }
+        self.class_words: dict[int, Words] = {number: self._words_of_class(number) for number in self.queues.values()}
         self.late_of: Optional[LateOf]
         self.is_twice: Optional[IsTwice]
         self.late_of, self.is_twice = net.drawn_of(self)
         self._configure(self.options)
         for name in self.queues:
             self._configure_class(name, self.class_options[name])
+
+    def _bind_model(self) -> None:
+        """Lets the loss model use the network's seed with the link's pipe as direction, and the network's clock, if the model needs them."""
+        bind = getattr(self.loss, "bind", None)
+        if bind is not None:
+            bind(self.net.seed, self.pipe)
+        if hasattr(self.loss, "clock"):
+            setattr(self.loss, "clock", self.net.loop.time)
+
+    def _words_of_class(self, queue: int) -> Words:
+        """Returns the words for the packets of a class, with its queue's number: the loss model's, or separate words from the seed."""
+        return self.loss if self.has_model else Drawn(self.net.seed, QUEUES + queue)
 
     def second_pipe(self, datagram: Datagram, number: int) -> int:
         """Returns the pipe that delays a datagram once more, by its extra ms; 0 if the datagram isn't late. `number` is the packet's.

@@ -3,7 +3,6 @@
 from __future__ import annotations
 
 import asyncio
-import inspect
 import ipaddress
 from collections import Counter
 from contextlib import nullcontext
@@ -15,7 +14,7 @@ from hingetulip.aio.addresses import number
 from hingetulip.aio.datagram import MOST_BYTES, Datagram
 from hingetulip.aio.disturbances import DisturbingCalls
 from hingetulip.aio.extra import DelayOf, IsTwice, LateOf, of_words
-from hingetulip.aio.host import Host
+from hingetulip.aio.host import Host, check_host
 from hingetulip.aio.link import Classifier, Link, Words
 from hingetulip.aio.loop import Loop
 from hingetulip.aio.names import Names
@@ -132,10 +131,8 @@ class Network(DisturbingCalls, Traffic):
         LineError: a word isn't a link's. ValueError: this link exists already, or both ends are the same host. TypeError: an end is
         no host.
         """
-        for end in (near, far):
-            if not isinstance(end, Host):
-                hint = "; run what makes it by sim_net.run" if inspect.isawaitable(end) or inspect.isasyncgen(end) else ""
-                raise TypeError(f"a link is between two hosts, and {end!r} is none{hint}")
+        check_host(near)
+        check_host(far)
         if near is far or (near, far) in self.links:
             raise ValueError(f"there is a link from {near.name} to {far.name} already")
         link = Link(
