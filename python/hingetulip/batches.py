@@ -45,7 +45,7 @@ class Batch:
 class Answers(Batch, Sequence[Item], Generic[Item]):
     """A batch that is also a sequence of items."""
 
-    READ: Any
+    READ: Any  # returns an item from a record's fields
 
     @overload
     def __getitem__(self, place: int) -> Item:
@@ -83,7 +83,8 @@ def read_fate(at: int, flow: int, packet: int, outcome: int) -> Fate:
 class Fates(Answers[Fate]):
     """The fates of a `submit_many`'s packets, in their order."""
 
-    LAYOUT, READ = FATE, staticmethod(read_fate)
+    LAYOUT = FATE
+    READ = staticmethod(read_fate)
     outcome = Column("Numbers of `Outcome`.")
     at = Column("The effective moments, in ns.")
     flow = Column("Flows; 0 without a target.")
@@ -93,7 +94,8 @@ class Fates(Answers[Fate]):
 class Deliveries(Answers[Delivery]):
     """The packets that a `collect_many` returned, in the order in which they are due."""
 
-    LAYOUT, READ = DELIVERY, staticmethod(Delivery)
+    LAYOUT = DELIVERY
+    READ = staticmethod(Delivery)
     due = Column("The moments when packets leave, in ns.")
     packet = Column("Packet numbers, the same as in the packets' fates.")
     flow = Column("Flows.")
