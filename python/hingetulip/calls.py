@@ -31,7 +31,7 @@ Line = Union[str, bytes, bytearray, memoryview]
 Closable = TypeVar("Closable", bound="Closing")
 
 
-def encoded(line: Line) -> bytes:
+def encode_line(line: Line) -> bytes:
     """Returns a configuration line's bytes. Surrogates remain, so that the library reports text that isn't UTF-8."""
     return bytes(line) if isinstance(line, (bytes, bytearray, memoryview)) else line.encode("utf-8", "surrogatepass")
 
@@ -48,7 +48,7 @@ def succeed(status: int) -> None:
         raise failure(status)
 
 
-def unpackable(**fields: Any) -> Exception:
+def error_of_fields(**fields: Any) -> Exception:
     """Returns the exception for a packet's fields, or a moment, outside the library's types."""
     for name, value in fields.items():
         most = LAST_MOMENT if name == "moment" else 256 ** PACKET.width(name) - 1
@@ -172,7 +172,7 @@ class Calls(ABC):
 
         LineError: the line isn't a command. RefusedError: the pipe or queue doesn't exist, or a pipe to delete has queues.
         """
-        succeed(self._obeyed(encoded(line)))
+        succeed(self._obeyed(encode_line(line)))
 
     def _obeyed(self, line: bytes) -> int:
         """Applies a line, and returns the call's status. LineError: the line isn't a command, though it has words."""
@@ -219,7 +219,7 @@ class Calls(ABC):
             status = self._submit(*self._submitted)
             at, flow, packet, outcome = unpack_fate(self._fate)
         except StructError:
-            raise unpackable(
+            raise error_of_fields(
                 moment=moment, src=src, dst=dst, word=word, sport=sport, dport=dport, length=length, number=number, proto=proto
             ) from None
         finally:
@@ -266,4 +266,4 @@ class Calls(ABC):
         try:
             pack_moment(self._moment, 0, moment)
         except StructError:
-            raise unpackable(moment=moment) from None
+            raise error_of_fields(moment=moment) from None

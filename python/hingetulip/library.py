@@ -77,7 +77,7 @@ def places() -> Iterator[str]:
     yield NAMES[0]
 
 
-def loaded(place: str) -> PyDLL:
+def load(place: str) -> PyDLL:
     """Loads the library and returns it. Callers must pass arguments of the right ctypes types, since no function declares its types.
 
     A call keeps Python's lock, since releasing and reacquiring the lock would need more time than the call. ImportError: the library
@@ -90,7 +90,7 @@ def loaded(place: str) -> PyDLL:
     return library
 
 
-def found() -> tuple[PyDLL, str]:
+def find_library() -> tuple[PyDLL, str]:
     """Returns the library and its path: from HINGETULIP_LIBRARY, or else the first of `places` that can be loaded. ImportError: no
     library can be loaded.
     """
@@ -98,13 +98,13 @@ def found() -> tuple[PyDLL, str]:
     faults = []
     for place in [path] if path else places():
         try:
-            return loaded(place), place
+            return load(place), place
         except (OSError, AttributeError, ImportError) as fault:
             faults.append(str(fault))
     raise ImportError(f"{NAMES[0]} can't be loaded ({'; '.join(faults)}); the variable HINGETULIP_LIBRARY can name it")
 
 
-CALLS, LIBRARY = found()
+CALLS, LIBRARY = find_library()
 
 
 def version_text(version: int) -> str:

@@ -9,7 +9,7 @@ from typing import Any, Optional, Union
 
 from hingetulip.audits import MOST_BYTES, audit, parts
 from hingetulip.batches import Deliveries, Fates, Packets
-from hingetulip.calls import Line, Turn, encoded, succeed
+from hingetulip.calls import Line, Turn, encode_line, succeed
 from hingetulip.history_file import Recording
 from hingetulip.library import CALLS
 from hingetulip.records import Delivery, Fate, Verdict
@@ -32,7 +32,7 @@ class RecordedShaper(Shaper):
         self._submit_entry = self._recording.entry(*self._submitted[1:])
 
     def configure(self, line: Line) -> None:
-        text = encoded(line)
+        text = encode_line(line)
         with self._recorded_turn:
             status = self._obeyed(text)
             self._recording.add_line(text, status)

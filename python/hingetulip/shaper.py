@@ -8,7 +8,7 @@ from struct import error as StructError
 from typing import Any, Callable, Optional
 
 from hingetulip.batches import Deliveries, Fates, Packets
-from hingetulip.calls import NEITHER_OR_BOTH, NOTHING, Calls, Closing, Turn, pack_packet, secret, succeed, unpackable
+from hingetulip.calls import NEITHER_OR_BOTH, NOTHING, Calls, Closing, Turn, pack_packet, secret, succeed, error_of_fields
 from hingetulip.errors import RangeError
 from hingetulip.layout import DELIVERY, FATE, FLOW, PIPE, QUEUE, Layout
 from hingetulip.library import CALLS, NEW_FLOW, ROOM, Handle, failure
@@ -131,7 +131,7 @@ class Shaper(Calls, Closing):
             try:
                 pack_packet(self._packet, 0, 0, src, dst, 0, sport, dport, 1, number, kind, proto)
             except StructError:
-                raise unpackable(src=src, dst=dst, sport=sport, dport=dport, number=number, proto=proto) from None
+                raise error_of_fields(src=src, dst=dst, sport=sport, dport=dport, number=number, proto=proto) from None
             status: int = CALLS.dn_reserve(self._self, byref(self._packet))
         if status != NEW_FLOW:
             succeed(status)

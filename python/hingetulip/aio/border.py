@@ -27,7 +27,7 @@ FUNCTIONS = {  # the library's functions, each with the types of its result and 
 }
 
 
-def loaded() -> Optional[Any]:
+def load_library() -> Optional[Any]:
     """Returns the library hinge-clock.so if it is preloaded, or else loads it from the path in HINGE_CLOCK, or from the folders in
     PLACES without that variable. Returns None if there is no such library.
     """
@@ -46,7 +46,7 @@ def loaded() -> Optional[Any]:
     return None
 
 
-LIBRARY = loaded()
+LIBRARY = load_library()
 joining: list[Callable[[], object]] = []  # the functions that a thread calls when it joins the run; none without a run
 
 
@@ -75,7 +75,7 @@ def calls() -> Counter[str]:
     return counts
 
 
-def bound_anew(own: Callable[..., Any]) -> Callable[..., Any]:
+def loader_in_run(own: Callable[..., Any]) -> Callable[..., Any]:
     """Returns the run's version of a function that loads a C library or module: the loaded code calls the run's functions."""
 
     def load(*arguments: Any, **keywords: Any) -> Any:
@@ -107,7 +107,7 @@ def border(clock: Clock, epoch: int, source: Random) -> Iterator[None]:
         joining.append(lambda: run(clock.place, epoch, source.getrandbits(64)))
         joining[-1]()
     try:
-        with switched(dict.fromkeys(loads, bound_anew)):
+        with switched(dict.fromkeys(loads, loader_in_run)):
             yield
     finally:
         if LIBRARY is not None:

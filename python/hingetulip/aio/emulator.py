@@ -8,7 +8,7 @@ from ctypes import byref, c_char, c_size_t, c_uint64
 from struct import error as StructError
 from typing import TYPE_CHECKING, Optional
 
-from hingetulip.calls import encoded, succeed, unpackable
+from hingetulip.calls import encode_line, succeed, error_of_fields
 from hingetulip.history_file import Recording
 from hingetulip.layout import DELIVERY, FATE, PACKET
 from hingetulip.library import CALLS, ROOM, failure
@@ -94,7 +94,7 @@ class Emulator:
             at = self.shaper.advance(moment)
             if self.history is not None:
                 self.history.add_advance(moment, at)
-        text = encoded(line)
+        text = encode_line(line)
         status = self.shaper._obeyed(text)
         if self.history is not None:
             self.history.add_line(text, status)
@@ -109,7 +109,7 @@ class Emulator:
                 self._packet, 0, moment, way.source, way.target, word, way.sport, way.dport, length, way.number, way.kind, way.proto
             )
         except StructError:
-            raise unpackable(word=word) from None
+            raise error_of_fields(word=word) from None
         status = submit_packet(*self._submitted)
         if status:
             raise failure(status)

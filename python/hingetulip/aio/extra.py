@@ -19,7 +19,7 @@ LateOf = Callable[[int], int]  # returns the extra ms for a packet's number, fro
 IsTwice = Callable[[int], bool]  # returns whether the packet with this number is doubled
 
 
-def of_words(extra: Extra, seed: int, pipe: int) -> tuple[Optional[LateOf], Optional[IsTwice]]:
+def effects_of_words(extra: Extra, seed: int, pipe: int) -> tuple[Optional[LateOf], Optional[IsTwice]]:
     """Returns the functions for the effects that a link's words request, such as `jitter 10ms duplicate 1%`; None for each effect
     that the words don't request.
     """

@@ -13,7 +13,7 @@ from typing import Any, Callable, Coroutine, Mapping, Optional, TypeVar, Union
 from hingetulip.aio.addresses import number
 from hingetulip.aio.datagram import MOST_BYTES, Datagram
 from hingetulip.aio.disturbances import DisturbingCalls
-from hingetulip.aio.extra import DelayOf, IsTwice, LateOf, of_words
+from hingetulip.aio.extra import DelayOf, IsTwice, LateOf, effects_of_words
 from hingetulip.aio.host import Host, check_host
 from hingetulip.aio.link import Classifier, Link, Words
 from hingetulip.aio.loop import Loop
@@ -156,7 +156,7 @@ class Network(DisturbingCalls, Traffic):
 
     def drawn_of(self, link: Link) -> tuple[Optional[LateOf], Optional[IsTwice]]:
         """Returns the functions for packets' extra ms on a link, and for doubled packets; None for an effect that its words lack."""
-        return of_words(link.options.extra, self.seed, link.pipe)
+        return effects_of_words(link.options.extra, self.seed, link.pipe)
 
     def path(
         self, one: Host, other: Host, options: Optional[str] = None, back: Optional[str] = None, *, preset: Optional[str] = None

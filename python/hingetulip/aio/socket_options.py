@@ -27,7 +27,7 @@ DEFAULTS = {
 }
 
 
-def whole(value: Any) -> int:
+def option_number(value: Any) -> int:
     """Returns an option's number, from an int or its bytes."""
     return value if isinstance(value, int) else int.from_bytes(value, "little")
 
@@ -45,15 +45,15 @@ def set_option(endpoint: Endpoint, level: int, name: int, value: Any) -> None:
     """
     option = level, name
     if option in SHARED:
-        endpoint.shares = bool(whole(value))
+        endpoint.shares = bool(option_number(value))
     elif option == (SOCKET, socket.SO_BROADCAST):
-        endpoint.broadcasts = bool(whole(value))
+        endpoint.broadcasts = bool(option_number(value))
     elif option in HEARS_ITSELF:
-        endpoint.hears_itself = bool(whole(value))
+        endpoint.hears_itself = bool(option_number(value))
     elif option == (IPV6, socket.IPV6_V6ONLY):
         if endpoint.local[1]:
             raise fault(errno.EINVAL)
-        endpoint.only_6 = bool(whole(value))
+        endpoint.only_6 = bool(option_number(value))
     elif option in ((IP, socket.IP_ADD_MEMBERSHIP), (IPV6, socket.IPV6_JOIN_GROUP)):
         endpoint.join(group_of(level, value))
     elif option in ((IP, socket.IP_DROP_MEMBERSHIP), (IPV6, socket.IPV6_LEAVE_GROUP)):
@@ -65,4 +65,4 @@ def option(known: Mapping[tuple[int, int], Any], level: int, name: int, length: 
     value = known.get((level, name), DEFAULTS.get((level, name), 0))
     if length:
         return struct.pack("=i", value)[:length] if isinstance(value, int) else bytes(value)[:length]
-    return whole(value)
+    return option_number(value)

@@ -13,7 +13,7 @@ from unittest import mock
 
 from hingetulip.aio.addresses import FLAGS
 from hingetulip.aio.datagram_socket import DatagramSocket
-from hingetulip.aio.kept import libraries_adapted
+from hingetulip.aio.libraries import libraries_adapted
 from hingetulip.aio.real import real_refused
 from hingetulip.aio.refusals import NO_COPY, RealTimeError
 from hingetulip.aio.switched import Either, Function, of_run, switched

@@ -36,7 +36,7 @@ def addresses(use_ipv4: bool, use_ipv6: bool) -> list[str]:
     return [address for address in current_host().addresses if (use_ipv6 if is_of_6(address) else use_ipv4)]
 
 
-def wrapped(sock: socket.socket) -> Any:
+def trio_socket(sock: socket.socket) -> Any:
     """Returns trio's socket for a system socket. RealTimeError: the socket is simulated, and trio wouldn't call its methods."""
     if isinstance(sock, DatagramSocket):
         raise RealTimeError(NO_TRIO)
@@ -46,8 +46,8 @@ def wrapped(sock: socket.socket) -> Any:
 REPLACED = (  # the modules and names of the functions, and the functions in their place
     ("ifaddr", "get_adapters", adapters),
     ("aioice.ice", "get_host_addresses", addresses),
-    ("trio._socket", "from_stdlib_socket", wrapped),
-    ("trio.socket", "from_stdlib_socket", wrapped),
+    ("trio._socket", "from_stdlib_socket", trio_socket),
+    ("trio.socket", "from_stdlib_socket", trio_socket),
 )
 
 
