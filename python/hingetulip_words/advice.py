@@ -8,11 +8,11 @@ from typing import Optional, Sequence
 from hingetulip_words.values import EXAMPLES, EXTRAS, FACTOR, FIELD_BITS, FORMS, PER_SECOND
 from hingetulip_words.values import Advice, fault_of, mask, mask_bits, wrong_form
 
-OPTIONS = {
+OPTIONS = {  # the options of a pipe and a queue
     "pipe": ["bw", "delay", "queue", "plr", "buckets", "mask"],
     "queue": ["pipe", "weight", "queue", "plr", "buckets", "mask"],
 }
-OTHER_NAMES = {
+OTHER_NAMES = {  # the options that other words may mean
     **dict.fromkeys(("loss", "drop", "packet-loss", "losses"), "plr"),
     **dict.fromkeys(("bandwidth", "rate", "speed"), "bw"),
     **dict.fromkeys(("latency", "lat"), "delay"),
@@ -20,9 +20,9 @@ OTHER_NAMES = {
     **{"prio": "weight", "netmask": "mask"},
 }
 UNIT = rf"(?i:{FACTOR}{PER_SECOND}|{FACTOR})|ms|KB|Kbytes?"
-ALONE = "kill|stop|cont|restart|crash"
+ALONE = "kill|stop|cont|restart|crash"  # acts on a single host
 HOST = r"([A-Za-z][\w-]*)"
-ACT = f"cut|heal|skew|{ALONE}"
+ACT = f"cut|heal|skew|{ALONE}"  # acts on hosts
 NET_LINES = (  # patterns of what people write in a net's file, each with the net's own form
     (r"((?!nemesis).*) for (\d\S*)", r"\1 \2"),
     (r"(?:after|at) (\S+?)[:,]? (.*)", r"at \1 \2"),
@@ -68,7 +68,7 @@ FAULTS = (  # the same for a list of faults
     (r"(.* packet \d+) (?:duplicated?|double)", r"\1 twice"),
     (r"(.* packet \d+) (?:late|delay(?:ed)?)(?: by)? (\d+)(?:ms)?", r"\1 late \2ms"),
 )
-OPEN = ("none", "off", "no", "nothing", "unlimited", "infinite", "perfect", "open", "unshaped")
+OPEN = ("none", "off", "no", "nothing", "unlimited", "infinite", "perfect", "open", "unshaped")  # words for a link without limits
 NEAR = 0.65  # the least similarity, from 0 to 1, of a word that the user may mean
 SHOWS_NOTHING = Advice("it shows nothing here", "leave this line out")
 

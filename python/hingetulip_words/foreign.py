@@ -15,7 +15,7 @@ WRAPPERS = ("mahimahi", "trickle")  # tools that run a command
 STRICT = ("netem", "tbf", "htb", "cake")  # tools whose words contain no names of other things
 NETEMS = {"rate", "limit", "netem"}  # words that netem has, and no link
 
-NUMBER = r"(?a)(\d{0,99}\.?\d{1,99})([a-z%/]*)"  # of few digits, as Python refuses thousands
+NUMBER = r"(?a)(\d{0,99}\.?\d{1,99})([a-z%/]*)"  # at most 99 digits before and after the point, since Python refuses to convert thousands
 SCALES = SCALE | {"t": 10**12, "ki": 2**10, "mi": 2**20, "gi": 2**30}
 
 
@@ -26,7 +26,8 @@ def rates(endings: Sequence[str], times: int = 1) -> dict[str, Fraction]:
 
 BITS = rates(("bit", "bps", "bit/s", "bits/s", "b/s", ""))
 SIZES = {"": 1, "b": 1, "k": 1024, "kb": 1024, "m": 1024**2, "mb": 1024**2, "kbit": 128, "mbit": 128 * 1024}
-# What ms, bit/s, bytes or percent a number is, by the unit that is typed; "" where there is none. In tc, `bps` are bytes.
+# For each kind of unit in the table, the typed units and their factors to ms, bit/s, bytes or percent; "" stands for a number without
+# a unit. In tc, `bps` means bytes.
 UNITS: dict[str, Mapping[str, Union[int, Fraction]]] = {
     "us": {**TIMES, "": Fraction(1, 1000)}, "ms": {**TIMES, "": 1}, "tc": {**BITS, **rates(["bps"], 8)}, "bits": BITS,
     "kbit": {**BITS, "": 1000}, "mbit": {**BITS, "": 10**6}, "KB": {"": 8000}, "KiB": {"": 8192}, "bytes": SIZES,

@@ -36,7 +36,7 @@ ours both; rate bandwidth bw speed = bw:bits; delay latency = delay:ms; rtt = rt
 
 
 class Action(Enum):
-    """What the reader does with the values after another tool's word."""
+    """The reader's action at another tool's word and its values."""
 
     SET = "set"  # sets a link's property to a number
     FILE = "file"  # reads the name of a trace

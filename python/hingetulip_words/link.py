@@ -13,11 +13,12 @@ from hingetulip_words.values import EXTRAS, FIELD_BITS, LONGEST_WORD, PERCENT, A
 from hingetulip_words.wrong_words import DELAY, JITTER, MISSING, MOST_JITTER, OF_RUNS, ONE_WORD, RATE, REORDER, UNIT
 from hingetulip_words.wrong_words import Context, second_word, wrong_loss, wrong_word
 
-LINE = ("ipfw", "pipe", "config")
+LINE = ("ipfw", "pipe", "config")  # words of a configuration line in front of a link's words
+# Options of ipfw(8) that dummynet here leaves out.
 LEFT_OUT = ("red", "gred", "ecn", "codel", "pie", "fq_codel", "fq_pie", "sched", "burst", "profile", "noerror", "droptail")
 LIKE_A_LINE = Advice("a link has the options alone", "leave out all before them, or give the whole line by --line")
-WRITTEN = r"write ([^,;()]+)"
-MOST_CORRECTIONS = 12  # of a single text
+REPLACEMENT = r"write ([^,;()]+)"  # advice that contains a single replacement
+MOST_CORRECTIONS = 12  # the most words that are replaced in a text
 NO_WORDS = "no words of a link (example: 10Mbit/s 20ms)"
 CERTAIN = 2**31  # the number for the chance 1
 ENDED = {"bw": "bw 0", "delay": "delay 0", "queue": "queue 50", "plr": "loss 0%"}  # the words by which a change ends an option
@@ -44,7 +45,7 @@ class WordError(ValueError):
 
     def right(self) -> Optional[str]:
         """Returns the word's replacement, or None if the advice leaves a choice."""
-        replacement = re.fullmatch(WRITTEN, self.advice.right)
+        replacement = re.fullmatch(REPLACEMENT, self.advice.right)
         return replacement[1] if replacement else self.advice.word
 
 

@@ -15,7 +15,7 @@ class Preset(NamedTuple):
 
     up: str  # to the server
     down: str  # from the server
-    source: str  # of the figures
+    source: str  # the origin of the figures
 
 
 PAGE, APPLE = "WebPageTest's profile", "Apple's Network Link Conditioner,"

@@ -6,7 +6,7 @@ import re
 from fractions import Fraction
 from typing import Callable, NamedTuple, Optional
 
-FORMS = {
+FORMS = {  # the advice on each option's format
     "bw": "write 8Mbit/s, 300Kbit/s or 1MByte/s",
     "delay": "write whole milliseconds, as 20 or 20ms, up to 3600000",
     "queue": "write packets, as 50 (1 to 10000), or 64Kbytes (1 to 1024)",
@@ -16,7 +16,7 @@ FORMS = {
     "pipe": "write 1 to 65535",
 }
 LONGEST_WORD = 200  # letters; all accepted values are shorter
-FIELD_BITS = {"src-ip": 32, "dst-ip": 32, "src-port": 16, "dst-port": 16, "proto": 8}
+FIELD_BITS = {"src-ip": 32, "dst-ip": 32, "src-port": 16, "dst-port": 16, "proto": 8}  # the widths of a mask's fields in bits
 # Patterns that only wrong words need are texts, so that no start compiles them.
 BANDWIDTH = r"(\d+(?:\.\d+)?)([kmgt]?)i?(b|bit|bits|byte|bytes|bps|b/s|bit/sec|bits/sec|bit/s|bits/s|byte/s|bytes/s|byte/sec|)"
 UNITS = "ns=1/1000000 us,µs,usec,usecs=1/1000 ms,msec,msecs,milliseconds=1 s,sec,secs,second,seconds=1000 min,minute,minutes=60000"
@@ -26,11 +26,11 @@ for unit in UNITS.split():
     TIMES.update(dict.fromkeys(names.split(","), Fraction(ms)))
 DELAY = rf"(-?)(\d+(?:\.\d+)?)({'|'.join(TIMES)})"
 ROOM = r"(\d+)(kib|mb|mbyte|mbytes|m|mib|b|byte|bytes|pkt|pkts|packet|packets|p|slots?|k|kb|kbytes?)"
-MOST_KBYTES = 1024
-SCALE = {"": 1, "k": 10**3, "m": 10**6, "g": 10**9}
+MOST_KBYTES = 1024  # the greatest queue limit in Kbytes
+SCALE = {"": 1, "k": 10**3, "m": 10**6, "g": 10**9}  # the factors before a bandwidth's unit
 FACTOR, PER_SECOND = f"[{''.join(SCALE)}]?", "(?:bits?|bytes?)/s"  # the parts of a bandwidth's unit
 EXTRAS = {"jitter": "5ms", "duplicate": "1%", "corrupt": "1%"}  # a link's words that dummynet doesn't have, each with an example
-SHARES = tuple(word for word, example in EXTRAS.items() if example.endswith("%"))
+SHARES = tuple(word for word, example in EXTRAS.items() if example.endswith("%"))  # the words with a percentage of packets
 EXAMPLES = ("10Mbit/s", "20ms", "queue 100", "loss 1%", *map(" ".join, EXTRAS.items()))  # an example of each link word
 
 
@@ -46,7 +46,7 @@ class Form(NamedTuple):
 ANY_CASE = re.ASCII | re.IGNORECASE
 NUMBER = r"(0|[1-9]\d*)"
 PERCENT = re.compile(r"(\d+(?:\.\d+)?)%", re.ASCII)
-TAKEN = {
+TAKEN = {  # the format of each option's values, and of the values in a mask
     "bw": Form(re.compile(f"{NUMBER}({FACTOR})({PER_SECOND})?", ANY_CASE), 0, 10**12, "a bandwidth is 0 to 1000Gbit/s"),
     "delay": Form(re.compile(NUMBER + "(ms)?", re.ASCII), 0, 3_600_000, "a delay is 0 to 3600000ms"),
     "queue": Form(
@@ -170,7 +170,7 @@ def mask(field: str, text: str) -> Advice:
     return Advice("not the bits of a mask", "write them as 0xffffffff")
 
 
-READERS: dict[str, Callable[[str], Advice]] = {"bw": bandwidth, "delay": delay, "queue": room, "plr": loss}
+READERS: dict[str, Callable[[str], Advice]] = {"bw": bandwidth, "delay": delay, "queue": room, "plr": loss}  # advice by option
 
 
 def number_of(option: str, text: str) -> Fraction:

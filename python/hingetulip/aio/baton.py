@@ -40,7 +40,7 @@ class Baton:
         self.lost: Optional[
             str
         ] = None  # once a member has left the run without ending: the error, or an empty text if there is none
-        self.members: dict[int, Member] = {}  # by the threads' identifiers
+        self.members: dict[int, Member] = {}  # the threads, by their identifiers in Python
 
     def start(self, own: Function, member: Member, function: Function, arguments: Any = (), keywords: Any = {}) -> Any:
         """Starts a thread that calls `function`, and returns the result of `own`, the system's function for starting a thread. The

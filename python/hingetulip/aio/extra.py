@@ -12,7 +12,7 @@ if TYPE_CHECKING:
 
 OF_JITTER, OF_COPIES = 1 << 20, 2 << 20  # added to a pipe's number: separate streams of words, the same as in the C hosts
 LOSES_NONE = 2**31 - 1  # the word that no loss rate below 1 loses
-IS_LOST, IS_TWICE, IS_LATE = "lost", "twice", "late"  # what happens to a packet
+IS_LOST, IS_TWICE, IS_LATE = "lost", "twice", "late"  # events of a packet on a link
 MOST = 3_600_000  # ms: the longest delay of a pipe
 DelayOf = Callable[[Datagram], float]  # returns a datagram's extra ms
 LateOf = Callable[[int], int]  # returns the extra ms for a packet's number, from 1

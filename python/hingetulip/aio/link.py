@@ -74,7 +74,9 @@ class Link:
         self.has_model = loss is not None
         self._bind_model()
         self.functions = {"loss": loss, "copies": copies, "jitter": jitter, "classes": classes}  # the arguments, for `idle`
-        self.changes = list[tuple[float, int]]()  # for each change after a packet: the time, and the number of packets before
+        self.changes = list[
+            tuple[float, int]
+        ]()  # the changes after the first packet: each one's time, and the number of packets before
         self.options = self.begun = Options(options, has_model=self.has_model, place=Place.RUN)
         self.class_options = {name: Options(text, "queue", self.has_model) for name, text in (classes or {}).items()}
         self.class_words: dict[int, Words] = {number: self._words_of_class(number) for number in self.queues.values()}

@@ -20,7 +20,7 @@ class Names:
     """The names and addresses of a network's hosts."""
 
     def __init__(self, hosts: dict[str, Host], numbers: dict[str, int]) -> None:
-        self.hosts = hosts  # by address and name
+        self.hosts = hosts  # the hosts, by each address and by name
         self.numbers = numbers  # addresses as a history's numbers
 
     def address_of(self, name: str, version: int = 4) -> str:

@@ -57,7 +57,7 @@ class Network(DisturbingCalls, Traffic):
         self.options = options
         self.back = back
         self.start = start
-        """What `time.time()` returns at the beginning of the simulated time, in seconds since 1970."""
+        """The result of `time.time()` at the beginning of the simulated time, in seconds since 1970."""
         self.random = Random(seed)
         super().__init__(Shaper(seed=seed), Recording(history) if history else None)
         self.names = Names(self.hosts, self.numbers)

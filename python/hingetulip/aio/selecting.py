@@ -1,4 +1,4 @@
-"""What `select`, `poll` and `epoll` do in a run: simulated sockets are among their descriptors, and waits yield to other threads."""
+"""Replaces `select`, `poll` and `epoll` in a run: they accept simulated sockets, and yield to other threads instead of waiting."""
 
 from __future__ import annotations
 

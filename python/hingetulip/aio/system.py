@@ -26,7 +26,7 @@ if TYPE_CHECKING:
 Lock: Any = _thread.LockType
 LockAgain: Any = type(threading.RLock())
 HANDLES = [getattr(_thread, name) for name in dir(_thread) if name == "_ThreadHandle"]  # the type of Python 3.13's threads
-PROCESS_LOCKS = [kind for kind in [getattr(_multiprocessing, "SemLock", None)] if kind]  # which systems may lack
+PROCESS_LOCKS = [_multiprocessing.SemLock] if hasattr(_multiprocessing, "SemLock") else []  # the type of locks between processes
 VIRTUAL = (-1, socket.AF_INET, socket.AF_INET6)
 
 

@@ -1,4 +1,4 @@
-"""What the system's functions for threads and locks do in a run: they yield to other threads instead of waiting."""
+"""Replaces the system's functions for threads and locks in a run: they yield to other threads instead of waiting."""
 
 from __future__ import annotations
 
