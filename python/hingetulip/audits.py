@@ -31,15 +31,16 @@ History = Union[Bytes, Readable, Iterable[Bytes]]
 
 
 class Audit(Closing):
-    """The audit for a history, or for a live session's transcript, whose text arrives in parts of any length.
+    """Audits a history, or a live session's transcript, whose text arrives in parts of any length.
 
-    An audit repeats the history's calls and compares each reply with the text, like `dummynet audit`. It keeps no text in the
-    library's own format. It ends with `finish`, `close`, the end of a `with`, or any exception except InUseError; later calls raise
-    ClosedError.
+    An audit repeats the history's calls and compares each reply with the text, like `dummynet audit`. Of a text in the library's
+    own format, the audit keeps no part. The audit ends with `finish`, `close`, the end of a `with` block, or any exception except
+    InUseError; later calls raise ClosedError.
     """
 
     def __init__(self, limit: int = HISTORY_LIMIT) -> None:
-        """Begins an audit of a text with at most `limit` bytes. Each audit draws a key for the flow table, which changes no verdict.
+        """Begins an audit of a text with at most `limit` bytes. Each audit draws a key for the flow table, which changes no
+        verdict.
 
         RangeError: the limit isn't in 0 to 2^64 - 1.
         """

@@ -134,8 +134,8 @@ class Packets(Batch):
         dport: Values = 0,
         word: Optional[Values] = None,
     ) -> None:
-        """Creates `count` packets for pipes or queues. Each argument is a number for all packets, or an iterable with a number for each
-        packet. Without words, each `submit_many` draws new words.
+        """Creates `count` packets for pipes or queues. Each argument is a number for all packets, or an iterable with a number for
+        each packet. Without words, each `submit_many` draws new words.
 
         TypeError: there are neither pipes nor queues, or both. RangeError: a number is outside its column's range. ValueError: an
         iterable has another length than `count`.

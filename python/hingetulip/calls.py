@@ -37,7 +37,9 @@ def encode_line(line: Line) -> bytes:
 
 
 def secret() -> tuple[c_uint64, c_uint64]:
-    """Returns a random key for a table of flows, so that an attacker can't choose packets that slow it. Results don't depend on the key."""
+    """Returns a random key for a flow table, so that an attacker can't choose packets that slow the table. No result depends on the
+    key.
+    """
     high, low = SECRET.unpack(urandom(SECRET.size))
     return c_uint64(high), c_uint64(low)
 
@@ -201,7 +203,7 @@ class Calls(ABC):
         """Returns the fate of a packet with `length` bytes that arrives at a pipe or queue at `moment` ns.
 
         Addresses are numbers: 10.0.0.1 is 0x0a000001. The packet is lost if the low 31 bits of its word are below the loss rate
-        (`plr`) times 2^31; without a word, the library draws one. RangeError: a number is outside its range. TypeError: there is no
+        (`plr`) times 2^31; without a word, the shaper draws one. RangeError: a number is outside its range. TypeError: there is no
         target, or two. InUseError: another call is in progress.
         """
         if pipe is None:
@@ -238,7 +240,9 @@ class Calls(ABC):
             return self._number.value
 
     def collect(self, moment: int) -> list[Delivery]:
-        """Moves the clock forward to `moment` ns, and returns the packets that are due and leave, in the order in which they are due."""
+        """Moves the clock forward to `moment` ns, and returns the packets that are due and leave, in the order in which they are
+        due.
+        """
         with self._turn:
             self._set_moment(moment)
             records = self._due()

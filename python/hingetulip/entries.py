@@ -60,9 +60,9 @@ class Submitted(NamedTuple):
 class Entry(NamedTuple):
     """A call by a history's caller, and its reply. Inapplicable fields are None or empty lists.
 
-    `moment` is the moment, in ns, of a submit, an advance or a collect. `line` is a configuration line in canonical form. `at` is the
-    reply's effective moment, or the clock. `refusal` is the reason for a refusal, such as `no such pipe`. In an unlawful history, the
-    reply may be of a kind that the call never gets.
+    `moment` is the moment, in ns, of a submit, an advance or a collect. `line` is a configuration line in canonical form. `at` is
+    the reply's effective moment, or the clock. `refusal` is the reason for a refusal, such as `no such pipe`. In an unlawful
+    history, the reply may be of a kind that the call never gets.
     """
 
     caller: int

@@ -75,7 +75,7 @@ class RowError(HingetulipError, ValueError):
 
 
 class InUseError(HingetulipError, RuntimeError):
-    """Raised if another thread, or the code that a signal interrupted, is in a call of the same shaper, caller, service or audit."""
+    """Raised if another thread, or the code that a signal interrupted, is in a call of the same object."""
 
     def __init__(self) -> None:
         super().__init__("another thread, or what a signal interrupted, is in a call of it")

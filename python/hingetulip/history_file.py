@@ -68,7 +68,9 @@ class Recording:
         self._room.value = longest
 
     def entry(self, *arguments: Any) -> tuple[Any, ...]:
-        """Returns the arguments of a library call that writes an entry: the caller, `arguments` and the buffer. Frequent calls share them."""
+        """Returns the arguments of a library call that writes an entry: the caller, `arguments` and the buffer. Frequent calls
+        share them.
+        """
         return CALLER, *arguments, self._place, self._room, byref(self._length)
 
     def add(self, call: Callable[..., int], entry: tuple[Any, ...]) -> None:

@@ -43,7 +43,7 @@ FAILURES: dict[int, type[HingetulipError]] = {
 
 
 class Handle(Structure):
-    """The library's memory for a shaper or an audit. It can't move while open."""
+    """The library's memory for a shaper or an audit. The memory can't move while the handle is open."""
 
     _fields_ = [("at", c_void_p), ("open", c_bool)]
 
@@ -63,8 +63,8 @@ def failure(status: int) -> HingetulipError:
 
 
 def places() -> Iterator[str]:
-    """Yields the paths at which the library may be: beside this module, in a clone's `release`, in the `lib` of each enclosing folder,
-    and in the system's folders.
+    """Yields the paths at which the library may be: beside this module, in a clone's `release`, in the `lib` of each enclosing
+    folder, and in the system's folders.
     """
     here = Path(__file__).resolve().parent
     folders = [here]
@@ -78,10 +78,11 @@ def places() -> Iterator[str]:
 
 
 def load(place: str) -> PyDLL:
-    """Loads the library and returns it. Callers must pass arguments of the right ctypes types, since no function declares its types.
+    """Loads the library and returns it. Callers must pass arguments of the right ctypes types, since no function declares its
+    types.
 
-    A call keeps Python's lock, since releasing and reacquiring the lock would need more time than the call. ImportError: the library
-    has another major version.
+    A call keeps Python's lock, since releasing and reacquiring the lock would need more time than the call. ImportError: the
+    library has another major version.
     """
     library = PyDLL(place)
     version = library.dn_version()

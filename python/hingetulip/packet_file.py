@@ -27,7 +27,7 @@ def rows_of(text: bytes) -> bytes:
 
 
 def address(text: bytes) -> int:
-    """Returns the place of a text in memory."""
+    """Returns the address of a text in memory."""
     return cast(c_char_p(text), c_void_p).value or 0
 
 

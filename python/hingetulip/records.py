@@ -20,8 +20,8 @@ class Rule(IntEnum):
 class Outcome(IntEnum):
     """The outcome of a submitted packet.
 
-    QUEUED: the packet was accepted, and a collect returns it unless a delete discards it first. LOST: the packet was lost by the loss
-    rate (`plr`). FULL: the packet's queue was full. NO_TARGET: the packet's pipe or queue isn't configured.
+    QUEUED: the packet was accepted, and a collect returns it unless a delete discards it first. LOST: the packet was lost by the
+    loss rate (`plr`). FULL: the packet's queue was full. NO_TARGET: the packet's pipe or queue isn't configured.
     """
 
     QUEUED = 0
@@ -44,8 +44,8 @@ class Fate(NamedTuple):
 
 
 class Delivery(NamedTuple):
-    """A packet that leaves the emulator at the moment `due`. `packet` is the number in the packet's `Fate`, and `start` the moment when
-    its transmission began.
+    """A packet that leaves the emulator at the moment `due`. `packet` is the number in the packet's `Fate`, and `start` the moment
+    when its transmission began.
     """
 
     due: int
@@ -57,9 +57,9 @@ class Delivery(NamedTuple):
 class FlowStatus(NamedTuple):
     """A flow's state, with the counts of its packets so far.
 
-    The packets were sent to `queue`, or to the pipe if `queue` is None, and `pipe` carries them. Addresses, protocol and ports are the
-    flow's in the bits of the mask, and 0 in all others. In the flow's queue, `queued` packets wait, with `bytes` bytes. So far the
-    loss rate lost `lost` packets, a full queue dropped `full`, `started` have begun their transmission, and deletes discarded
+    The packets were sent to `queue`, or to the pipe if `queue` is None, and `pipe` carries them. Addresses, protocol and ports are
+    the flow's in the bits of the mask, and 0 in all others. In the flow's queue, `queued` packets wait, with `bytes` bytes. So far
+    the loss rate lost `lost` packets, a full queue dropped `full`, `started` have begun their transmission, and deletes discarded
     `discarded` from the queue.
     """
 
@@ -82,8 +82,8 @@ class FlowStatus(NamedTuple):
 class Verdict(NamedTuple):
     """The result of an audit. A lawful verdict is true.
 
-    `entries` is the number of calls with replies in the history. `differs` is the first entry whose reply isn't the emulator's after
-    the preceding calls, or None if there is no such entry.
+    `entries` is the number of calls with replies in the history. `differs` is the first entry whose reply isn't the emulator's
+    after the preceding calls, or None if there is no such entry.
     """
 
     entries: int

@@ -28,8 +28,8 @@ REST = 20e-6  # the s that the thread then sleeps
 
 
 def retried(call: Callable[..., int], *arguments: Any) -> int:
-    """Returns the status of a call, repeated until no other caller is in a call. Most calls end at once, so a thread sleeps only after
-    some tries.
+    """Returns the status of a call, repeated until no other caller is in a call. Most calls end at once, so a thread sleeps only
+    after some tries.
     """
     tries = 0
     while True:
@@ -82,8 +82,8 @@ class Caller(Calls):
         return self._last_records(self._calls.dn_caller_flows, FLOW)
 
     def _last_records(self, copy_records: Callable[..., int], layout: Layout) -> Union[Array[c_char], memoryview]:
-        """Returns the records of the last call, which the library keeps for this caller. `copy_records` is the library's function that
-        copies them, and `_number` contains their number.
+        """Returns the records of the last call, which the library keeps for this caller. `copy_records` is the library's function
+        that copies them, and `_number` contains their number.
         """
         count = self._number.value
         if count == 0:
@@ -96,8 +96,8 @@ class Caller(Calls):
 class Service(Closing):
     """An emulator shared by a program's threads, each through a caller.
 
-    All callers' calls form a single history. `history` sets its file, `take` appends the calls so far to the file, and `close`, or the
-    end of a `with` block, appends the rest and the file's end. Before a `take`, the entries are in memory.
+    All callers' calls form a single history. `history` sets its file, `take` appends the calls so far to the file, and `close`, or
+    the end of a `with` block, appends the rest and the file's end. Before a `take`, the entries are in memory.
     """
 
     def __init__(self, callers: int, seed: Optional[int] = None) -> None:
@@ -142,8 +142,8 @@ class Service(Closing):
     def close(self) -> None:
         """Writes the rest and the end of the history's file, and closes the service and its callers. A second call has no effect.
 
-        The call waits for other threads' calls. After an OSError the service is unchanged, and you can call `close` again. InUseError:
-        the call interrupts a call in the same thread, for example from a signal handler.
+        The call waits for other threads' calls. After an OSError the service is unchanged, and you can call `close` again.
+        InUseError: the call interrupts a call in the same thread, for example from a signal handler.
         """
         with ExitStack() as turns:
             for turn in (self._turn, *(caller._turn for caller in self.callers)):

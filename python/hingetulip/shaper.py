@@ -27,8 +27,8 @@ class Listing:
         self.room = self.new_room(64)
 
     def new_room(self, count: int) -> tuple[memoryview, tuple[Any, ...]]:
-        """Returns a buffer for `count` records, and the call's arguments. A tuple contains both, so that threads always see a matching
-        pair.
+        """Returns a buffer for `count` records, and the call's arguments. A tuple contains both, so that threads always see a
+        matching pair.
         """
         records = bytearray(self.size * count)
         place = byref((c_char * len(records)).from_buffer(records))
@@ -50,13 +50,13 @@ class Shaper(Calls, Closing):
     """An independent emulator, at first without pipes.
 
     Threads may use it in turn; a call during another call raises InUseError. The clock starts at 0 ns, and advances to each later
-    moment of a call. A call with an earlier moment has its effect at the clock. `close`, the end of a `with` block or the end of the
-    last reference closes the shaper.
+    moment of a call. A call with an earlier moment has its effect at the clock. `close`, the end of a `with` block or the end of
+    the last reference closes the shaper.
     """
 
     def __init__(self, rule: Rule = Rule.ORDERED, seed: Optional[int] = None) -> None:
-        """Opens a shaper. `rule` determines the order of a link's packets, and `seed` the words of packets without a word. RangeError:
-        there is no such rule.
+        """Opens a shaper. `rule` determines the order of a link's packets, and `seed` the words of packets without a word.
+        RangeError: there is no such rule.
         """
         if rule not in (Rule.ORDERED, Rule.FREE):
             raise RangeError(f"rule {rule!r} is neither ORDERED nor FREE")
@@ -117,12 +117,12 @@ class Shaper(Calls, Closing):
         sport: int = 0,
         dport: int = 0,
     ) -> bool:
-        """Reserves memory for a coming packet, and returns True. Before a packet of the same flow, or after 2^62 calls, the call can't
-        reserve memory, and returns False.
+        """Reserves memory for a coming packet, and returns True. Before a packet of the same flow, or after 2^62 calls, the call
+        can't reserve memory, and returns False.
 
-        Afterwards `submit` with this packet, whatever its length, allocates no memory, if only `advance`, `collect`, `show`, `wake`,
-        `reserve` and `submit` for other flows' packets precede it. The call changes nothing else. RangeError: a number is outside
-        its range. TypeError: there is no target, or two. OutOfMemoryError: the system refuses memory.
+        Afterwards `submit` with this packet, whatever its length, allocates no memory, if only `advance`, `collect`, `show`,
+        `wake`, `reserve` and `submit` for other flows' packets precede it. The call changes nothing else. RangeError: a number is
+        outside its range. TypeError: there is no target, or two. OutOfMemoryError: the system refuses memory.
         """
         if (pipe is None) == (queue is None):
             raise TypeError(NEITHER_OR_BOTH)
@@ -138,8 +138,8 @@ class Shaper(Calls, Closing):
         return status != NEW_FLOW
 
     def collect_many(self, moment: int) -> Deliveries:
-        """Moves the clock forward to `moment` ns, and returns the packets that are due, as `collect` does, but in the library's format,
-        whose columns you can read at once.
+        """Moves the clock forward to `moment` ns, and returns the packets that are due, as `collect` does, but in the library's
+        format, whose columns you can read at once.
         """
         with self._turn:
             self._set_moment(moment)

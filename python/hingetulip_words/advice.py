@@ -150,7 +150,9 @@ def left_out(before: str, text: str) -> Advice:
 
 
 def option_word(kind: str, before: str, text: str, more: Sequence[str] = ()) -> Advice:
-    """Returns advice on a word in the place of an option. `before` is the word before it, and `more` lists further words with values."""
+    """Returns advice on a word in the place of an option. `before` is the word before it, and `more` lists further words with
+    values.
+    """
     options = OPTIONS.get(kind, [])
     names = [*options, *more]
     if "=" in text:

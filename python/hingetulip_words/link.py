@@ -1,4 +1,4 @@
-"""Reads the words of links, such as `10Mbit/s 20ms queue 100 loss 1%`, or ipfw's options in full, for `hinge` and hingetulip.aio."""
+"""Reads the words of links, such as `10Mbit/s 20ms queue 100 loss 1%`, or ipfw's options in full."""
 
 from __future__ import annotations
 

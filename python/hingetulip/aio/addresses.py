@@ -16,7 +16,7 @@ FLAGS = socket.SOCK_NONBLOCK | socket.SOCK_CLOEXEC  # flags that a socket's type
 
 
 def is_of_6(address: str) -> bool:
-    """Returns whether an address is of IPv6."""
+    """Returns whether an address is an IPv6 address."""
     return ":" in address
 
 

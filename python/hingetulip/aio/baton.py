@@ -1,4 +1,6 @@
-"""The baton of a run's threads. A single thread runs at a time, and yields instead of waiting, so that the simulated clock advances."""
+"""The baton of a run's threads. A single thread runs at a time, and yields instead of waiting, so that the simulated clock
+advances.
+"""
 
 from __future__ import annotations
 
@@ -77,8 +79,8 @@ class Baton:
         """Yields until the condition `ready` is true, for at most `seconds`; returns whether the condition is true. With
         `is_of_process`, the clock stands still while processes of the run exist, since they may make the condition true.
 
-        The loop's thread can't yield: it lets the members run as long as they can, and then returns the result of `really`, a wait in
-        real time. RealTimeError: there is no such wait, or the wait can't succeed.
+        The loop's thread can't yield: it lets the members run as long as they can, and then returns the result of `really`, a wait
+        in real time. RealTimeError: there is no such wait, or the wait can't succeed.
         """
         if ready():
             return True
@@ -138,8 +140,8 @@ class Baton:
         return self.members.get(threading.get_ident())
 
     def pauses_clock(self) -> bool:
-        """Lets a short real time pass if a member waits for a process. Returns whether the clock must stand still for that member: not
-        if another member's wait ends within the next ns.
+        """Lets a short real time pass if a member waits for a process. Returns whether the clock must stand still for that member:
+        not if another member's wait ends within the next ns.
         """
         if not any(member.is_held() for member in self.members.values()):
             return False
@@ -169,8 +171,8 @@ class Baton:
         return has_turned
 
     def _comes_back(self) -> bool:
-        """Returns whether the member that runs yields or ends in time. Seconds in which the process computes count only if the network
-        is being closed.
+        """Returns whether the member that runs yields or ends in time. Seconds in which the process computes count only if the
+        network is being closed.
         """
         seconds = 0
         while seconds < (PATIENCE if self.is_closing else LONGEST):

@@ -91,8 +91,8 @@ def loader_in_run(own: Callable[..., Any]) -> Callable[..., Any]:
 
 @contextmanager
 def border(clock: Clock, epoch: int, source: Random) -> Iterator[None]:
-    """Makes C code use the run's clock and random numbers in this thread, and in threads that join the run, within the context. Begins
-    to count the real calls of C code anew.
+    """Makes C code use the run's clock and random numbers in this thread, and in threads that join the run, within the context.
+    Begins to count the real calls of C code anew.
 
     `epoch` is the clock's beginning in ns since 1970, and `source` draws the seeds of random numbers.
     """

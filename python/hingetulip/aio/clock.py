@@ -26,8 +26,8 @@ def other_threads() -> str:
 
 
 class Stuck(RuntimeError):
-    """Raised if no event can happen any more, or if tasks let no time pass. The message lists the waiting tasks, and the places in the
-    code where they wait.
+    """Raised if no event can happen any more, or if tasks let no time pass. The message lists the waiting tasks, and the places in
+    the code where they wait.
     """
 
 
@@ -48,10 +48,11 @@ class Clock:
         self.place = addressof(c_int64.from_buffer(self.memory))
 
     def select(self, timeout: Optional[float]) -> Sequence[asyncio.Handle]:
-        """Moves the clock to the next event, at most by `timeout` seconds, and delivers the datagrams that are due. Returns the handles
-        of ready descriptors. Without `timeout`, the loop has no timer.
+        """Moves the clock to the next event, at most by `timeout` seconds, and delivers the datagrams that are due. Returns the
+        handles of ready descriptors. Without `timeout`, the loop has no timer.
 
-        Stuck: no event can happen, or the loop makes too many steps at this moment. RealTimeError: a thread has left the run.
+        Stuck: no event can happen, or the loop makes too many steps at this moment. RealTimeError: a thread of the run
+        waited for something real for too long.
         """
         net, descriptors, baton = self.net, self.descriptors, self.loop.baton
         self.asked = 0

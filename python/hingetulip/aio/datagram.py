@@ -28,7 +28,7 @@ class Refusal(Datagram):
 
 
 def headers(address: str) -> int:
-    """Returns the length of a datagram's headers, for its destination."""
+    """Returns the length of the headers of a datagram to this address."""
     return HEADERS_OF_6 if ":" in address else HEADERS
 
 
@@ -40,7 +40,7 @@ def refusal(datagram: Datagram) -> Refusal:
 
 
 class Dropped(NamedTuple):
-    """A datagram that was lost on a link, or arrived at a full queue."""
+    """The record of a datagram that was lost on a link, or that a full queue dropped."""
 
     row: int  # the packet's row, from 1, which `hinge look` prints
     moment: int  # ns since the beginning of the simulated time
@@ -58,5 +58,5 @@ class Dropped(NamedTuple):
 
 
 def place(address: str) -> str:
-    """Returns an address in the form used before a port."""
+    """Returns an address as text before a port: an IPv6 address is in brackets."""
     return f"[{address}]" if ":" in address else address

@@ -237,8 +237,8 @@ class DatagramSocket(HostlessSocket):
         return endpoint
 
     def recvfrom(self, bufsize: int, flags: int = 0) -> tuple[bytes, Any]:
-        """Returns the next datagram's data and source. BlockingIOError: none has arrived, and the socket doesn't block. RealTimeError:
-        none has arrived, and the loop's thread would wait.
+        """Returns the next datagram's data and source. BlockingIOError: none has arrived, and the socket doesn't block.
+        RealTimeError: none has arrived, and the loop's thread would wait.
         """
         endpoint = self._await(flags)
         datagram = self._queue[0] if flags & socket.MSG_PEEK else self._queue.popleft()
@@ -257,7 +257,9 @@ class DatagramSocket(HostlessSocket):
         return self.recvfrom_into(buffer, nbytes, flags)[0]
 
     def recvmsg(self, bufsize: int, ancbufsize: int = 0, flags: int = 0) -> tuple[bytes, list[Any], int, Any]:
-        """Returns the next datagram's data, its time stamp if the socket wants one, MSG_TRUNC if the data is cut off, and the source."""
+        """Returns the next datagram's data, its time stamp if the socket wants one, MSG_TRUNC if the data is cut off, and the
+        source.
+        """
         self._await(flags)
         datagram = self._queue[0]
         data, source = self.recvfrom(bufsize, flags)

@@ -24,7 +24,7 @@ READABLE, WRITABLE = select.POLLIN | select.POLLHUP | select.POLLERR, select.POL
 
 
 class Descriptors:
-    """The loop's callbacks for descriptors. Simulated sockets are always writable.
+    """Keeps the loop's callbacks for descriptors. Simulated sockets are always writable.
 
     The loop polls descriptors of the system, such as pipes, at each step, but simulated time doesn't wait for them.
     """
@@ -59,7 +59,7 @@ class Descriptors:
             socket.close(self._ends.pop(descriptor))
 
     def settle(self, are_all: bool = False) -> None:
-        """Makes the system report the readable simulated sockets as readable, or all simulated sockets, and no other ones."""
+        """Makes the system report those simulated sockets as readable that have data; with `are_all`, all simulated sockets."""
         for own, simulated in self.sockets.items():
             is_readable = are_all or simulated.is_readable()
             if is_readable and own not in self._settled:
@@ -139,8 +139,8 @@ class Descriptors:
             self._others.add(number)
 
     def _count_real_use(self, number: int) -> None:
-        """Counts a new descriptor of the system as a real use. RealTimeError: the descriptor is a real network socket's, and the network
-        isn't `real`.
+        """Counts a new descriptor of the system as a real use. RealTimeError: the descriptor is a real network socket's, and the
+        network isn't `real`.
         """
         if number not in self._others and not self.loop.net.real:
             if family_of(number) != socket.AF_UNIX:

@@ -20,8 +20,8 @@ class Unmet(RuntimeError):
 
 
 class Disturbance:
-    """A cut, hold, crash or skew, with the number (`met`) of packets, of sockets and tasks, or of looks at the clock that it affected.
-    Disturbances that a seed drew (`is_drawn`) may have no effect.
+    """A cut, hold, crash or skew, with the number (`met`) of packets, of sockets and tasks, or of looks at the clock that it
+    affected. Disturbances that a seed drew (`is_drawn`) may have no effect.
     """
 
     def __init__(self, net: DisturbingCalls, kind: str, of: str, seconds: float) -> None:
@@ -49,7 +49,7 @@ class Disturbance:
 
 
 class DisturbingCalls:
-    """A network's calls for disturbances."""
+    """The methods of a network that cut, hold, crash or skew links and hosts."""
 
     loop: Loop
     hosts: dict[str, Host]
@@ -69,8 +69,8 @@ class DisturbingCalls:
         return known
 
     def _links_of(self, of: Union[Host, str], kind: str) -> tuple[str, list[Link]]:
-        """Returns the name and the links of a host, or of a single link such as `client > server`. ValueError: there is no such host or
-        link, or the host has no links.
+        """Returns the name and the links of a host, or of a single link such as `client > server`. ValueError: there is no such
+        host or link, or the host has no links.
         """
         if isinstance(of, str) and " > " in of:
             links = [link for link in self.links.values() if link.name == of]
@@ -92,7 +92,9 @@ class DisturbingCalls:
         return self.disturb(CUT, seconds, *self._links_of(of, CUT))
 
     def hold(self, of: Union[Host, str], seconds: float) -> Disturbance:
-        """Makes packets wait before the links of a host, or before a single link, for this time. ValueError: the same as from `cut`."""
+        """Makes packets wait before the links of a host, or before a single link, for this time. ValueError: the same as from
+        `cut`.
+        """
         return self.disturb(HOLD, seconds, *self._links_of(of, HOLD))
 
     def disturb(self, kind: str, seconds: float, name: str, links: list[Link]) -> Disturbance:
@@ -111,7 +113,9 @@ class DisturbingCalls:
         return disturbance
 
     def skew(self, of: Union[Host, str], seconds: float) -> Disturbance:
-        """Sets a host's clock ahead by these seconds (or behind) from now on. ValueError: there is no such host."""
+        """Sets a host's clock `seconds` ahead of the network's time from now on; behind it, if the number is negative. ValueError:
+        there is no such host, or `seconds` is no finite number.
+        """
         host = self.found(of)
         disturbance = Disturbance(self, SKEW, host.name, seconds)
         host.skew = disturbance

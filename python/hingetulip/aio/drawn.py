@@ -15,7 +15,7 @@ FEW, MANY = 2, 32  # the numbers of words in the first batch and in each later b
 
 
 class Lanes:
-    """Several words, computed together as one long number."""
+    """Computes the words of several packets together, as parts (lanes) of a long number."""
 
     def __init__(self, count: int) -> None:
         self.count = count
@@ -54,7 +54,9 @@ def word(seed: int, direction: int, number: int) -> int:
 
 
 class Drawn:
-    """The words for a direction's packets, numbered from 1. The direction is a pipe's number, or a queue's number + QUEUES."""
+    """Draws the words for a direction's packets, numbered from 1. The direction is a pipe's number, or a queue's number +
+    QUEUES.
+    """
 
     def __init__(self, seed: int, direction: int) -> None:
         self.next = words(seed * SEED + (direction - 1) * DIRECTION & MASK).__next__

@@ -1,5 +1,5 @@
-"""Calls the emulator for a network. For a single caller this is faster than Shaper: packets use prepared ways, and results are plain
-numbers.
+"""Calls the emulator for a network. For a single caller this is faster than Shaper: packets use prepared ways, and results are
+plain numbers.
 """
 
 from __future__ import annotations
@@ -57,8 +57,8 @@ class Way:
 
 
 class Emulator:
-    """Calls a network's shaper at moments that never decrease, so that each call happens at its moment. Only the loop makes calls, so
-    they need no lock. With a history, each call adds an entry.
+    """Calls a network's shaper at moments that never decrease, so that each call happens at its moment. Only the loop makes calls,
+    so they need no lock. With a history, each call adds an entry.
     """
 
     def __init__(self, shaper: Shaper, history: Optional[Recording]) -> None:
@@ -89,7 +89,9 @@ class Emulator:
         self.shaper.close()
 
     def configure(self, moment: int, line: str) -> None:
-        """Applies a configuration line from this moment on. LineError: the line is wrong. RefusedError: the line's pipe doesn't exist."""
+        """Applies a configuration line from this moment on. LineError: the line is wrong. RefusedError: the line's pipe doesn't
+        exist.
+        """
         if moment:
             at = self.shaper.advance(moment)
             if self.history is not None:
@@ -101,8 +103,8 @@ class Emulator:
         succeed(status)
 
     def submit(self, way: Way, moment: int, length: int, word: int) -> tuple[int, int]:
-        """Submits a packet with a random word; returns the outcome as a number, and the packet's number. RangeError: the word, from a
-        loss model, isn't in 0 to 2^32 - 1.
+        """Submits a packet with a random word; returns the outcome as a number, and the packet's number. RangeError: the word, from
+        a loss model, isn't in 0 to 2^32 - 1.
         """
         try:
             pack_packet(

@@ -64,7 +64,9 @@ class Endpoint:
         self.only_6 = False  # whether it refuses IPv4 (IPV6_V6ONLY)
 
     def name(self) -> tuple[Any, ...]:
-        """Returns the local address and port, as getsockname does. After connecting, the address is the source of sent datagrams."""
+        """Returns the local address and port, as getsockname does. After connecting, the address is the source of sent
+        datagrams.
+        """
         address, port = self.local
         if self.remote:
             address = self.source_to(self.remote[0])
@@ -87,8 +89,8 @@ class Endpoint:
         return (text if is_of_6(text) else MAPPED + text, port, 0, 0)
 
     def target(self, address: Any) -> Address:
-        """Returns the address and port to send to, from a host's address or name. gaierror: the address is of another family than the
-        socket.
+        """Returns the address and port to send to, from a host's address or name. gaierror: the address is of another family than
+        the socket.
         """
         name, port = address[0], address[1]
         target = self._target_address(name)
@@ -138,8 +140,8 @@ class Endpoint:
         return fault(errno.EMSGSIZE, f"more than {most} bytes")
 
     def _source(self, target: str) -> Address:
-        """Returns the source address and port for a target, and binds to a free port if necessary. OSError: the host has no address of
-        the target's IP version, or the socket may not send there.
+        """Returns the source address and port for a target, and binds to a free port if necessary. OSError: the host has no address
+        of the target's IP version, or the socket may not send there.
         """
         if not self.local[1]:
             self.bind(*self.local)
@@ -164,8 +166,8 @@ class Endpoint:
         return local == target or local == ANY_OF_6 and not (self.only_6 and ":" not in target)
 
     def rank(self) -> int:
-        """Returns the endpoint's rank, 0 to 3: among several endpoints at a port, the highest receives a datagram. A peer counts for more
-        than an address.
+        """Returns the endpoint's rank, 0 to 3: among several endpoints at a port, the highest receives a datagram. A peer counts
+        for more than an address.
         """
         rank = 0
         if self.remote is not None:

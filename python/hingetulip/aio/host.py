@@ -72,7 +72,7 @@ class Host:
         return self.address_of_6 or self.address if version == 6 else self.address
 
     def create_task(self, coroutine: Coroutine[Any, Any, T], *, name: Optional[str] = None) -> asyncio.Task[T]:
-        """Creates a task that runs on this host; returns the task. Its child tasks run here too."""
+        """Creates a task that runs on this host, and returns the task. The tasks that it creates run here too."""
         return self._task(coroutine, name)
 
     def _task(self, coroutine: Coroutine[Any, Any, T], name: Optional[str] = None) -> asyncio.Task[T]:
@@ -87,8 +87,8 @@ class Host:
         return self.create_task(program())
 
     def stop(self) -> int:
-        """Crashes the host: closes its sockets and cancels its tasks; until `start` the host neither sends nor receives nor forwards.
-        Returns the number of these sockets and tasks.
+        """Crashes the host: closes its sockets and cancels its tasks; until `start` the host neither sends nor receives nor
+        forwards. Returns the number of these sockets and tasks.
         """
         self.is_up = False
         endpoints = [endpoint for at_port in self.sockets.values() for endpoint in at_port]

@@ -11,7 +11,7 @@ from hingetulip.aio.refusals import NO_COPY
 
 
 class HostlessSocket(socket.socket):
-    """A simulated datagram socket's kind and timeout, and the methods of sockets that such a socket doesn't have."""
+    """A simulated datagram socket's kind and timeout, and the methods that such a socket refuses."""
 
     _version: int  # 4 or 6
     _timeout: Optional[float]  # in s; None if calls wait without a limit, and 0 if they don't wait

@@ -24,7 +24,9 @@ Classifier = Callable[[Datagram], str]
 
 
 class Words(Protocol):
-    """A loss model: it returns a link's packets' words, random numbers. A packet is lost if its word is below the loss rate times 2^31."""
+    """A loss model. For each packet on a link, it returns a random number, the packet's word: the packet is lost if the word is
+    below the loss rate times 2^31.
+    """
 
     def next(self) -> int:
         """Returns the next packet's word, 0 to 2^31 - 1."""
@@ -33,8 +35,8 @@ class Words(Protocol):
 class Link:
     """A single direction between two hosts. Its configuration may change during a run.
 
-    Each link draws separate random words, so its losses never depend on packets in the other direction. `copies` returns how often a
-    datagram enters the link, and `jitter` returns additional ms of delay.
+    Each link draws separate random words, so its losses never depend on packets in the other direction. `copies` returns how often
+    a datagram enters the link, and `jitter` returns additional ms of delay.
     """
 
     def __init__(
@@ -88,7 +90,9 @@ class Link:
             self._configure_class(name, self.class_options[name])
 
     def _bind_model(self) -> None:
-        """Lets the loss model use the network's seed with the link's pipe as direction, and the network's clock, if the model needs them."""
+        """Lets the loss model use the network's seed with the link's pipe as direction, and the network's clock, if the model needs
+        them.
+        """
         bind = getattr(self.loss, "bind", None)
         if bind is not None:
             bind(self.net.seed, self.pipe)
@@ -96,12 +100,14 @@ class Link:
             setattr(self.loss, "clock", self.net.loop.time)
 
     def _words_of_class(self, queue: int) -> Words:
-        """Returns the words for the packets of a class, with its queue's number: the loss model's, or separate words from the seed."""
+        """Returns the words for the packets of a class, with its queue's number: the loss model's, or separate words from
+        the seed.
+        """
         return self.loss if self.has_model else Drawn(self.net.seed, QUEUES + queue)
 
     def second_pipe(self, datagram: Datagram, number: int) -> int:
-        """Returns the pipe that delays a datagram once more, by its extra ms; 0 if the datagram isn't late. `number` is the packet's.
-        Other packets can overtake late packets.
+        """Returns the pipe that delays a datagram once more, by its extra ms; 0 if the datagram isn't late. `number` is the
+        packet's. Other packets can overtake late packets.
         """
         if self.late_of is not None and number not in self.late:
             self.late[number] = self.late_of(number)
@@ -140,11 +146,15 @@ class Link:
         return f"pipe {self.pipe} config {options.all_lost() if self.cuts else options}".strip()
 
     def cut(self, seconds: float) -> Disturbance:
-        """Makes the link lose all arriving packets for this time. Packets on the link still arrive. ValueError: the time isn't above 0."""
+        """Makes the link lose all arriving packets for this time. Packets on the link still arrive. ValueError: the time isn't
+        above 0.
+        """
         return self.net.disturb(CUT, seconds, self.name, [self])
 
     def hold(self, seconds: float) -> Disturbance:
-        """Makes arriving packets wait before the link for this time, and then enter in order. ValueError: the time isn't above 0."""
+        """Makes arriving packets wait before the link for this time, and then enter in order. ValueError: the time isn't
+        above 0.
+        """
         return self.net.disturb(HOLD, seconds, self.name, [self])
 
     def begin(self, disturbance: Disturbance) -> None:
@@ -160,7 +170,9 @@ class Link:
         self._apply(disturbance)
 
     def _apply(self, disturbance: Disturbance) -> None:
-        """Applies the begin or end of a disturbance: configures the pipe for a cut, and sends held datagrams after the last hold."""
+        """Applies the begin or end of a disturbance: configures the pipe for a cut, and sends held datagrams after the last
+        hold.
+        """
         if disturbance.kind == CUT:
             self.net.obey(self.line)
         while self.held and not self.holds and not self.net.closing:
@@ -169,8 +181,8 @@ class Link:
     def change(self, options: str) -> None:
         """Reconfigures the whole link, as in `link.change("2Mbit/s 20ms")`.
 
-        LineError: a word is wrong, there are no words, or the words leave out an option that the link has at its beginning. Then the
-        link stays unchanged.
+        LineError: a word is wrong, there are no words, or the words leave out an option that the link has at its beginning. Then
+        the link stays unchanged.
         """
         changed = Options(nonempty(options), has_model=self.has_model, place=Place.CHANGE)
         if why := refusal(self.begun.settings, changed.settings):
@@ -187,8 +199,8 @@ class Link:
         return names + [f"the change of {self.name} at {moment:g} s" for moment, count in self.changes if count == self.came]
 
     def change_class(self, name: str, options: str) -> None:
-        """Reconfigures the queue of a class, as in `link.change_class("video", "weight 10")`. LineError: a word is wrong, or there are no
-        words.
+        """Reconfigures the queue of a class, as in `link.change_class("video", "weight 10")`. LineError: a word is wrong, or there
+        are no words.
         """
         self._configure_class(name, Options(nonempty(options), "queue", self.has_model))
 

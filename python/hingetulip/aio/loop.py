@@ -73,8 +73,8 @@ class Loop(asyncio.BaseEventLoop):
         return self.clock.seconds
 
     def resolve(self, resolution: float) -> None:
-        """Sets the clock's resolution to `resolution`, the distance between two floats at the current time. A timer is due at the nearest
-        float.
+        """Sets the clock's resolution to `resolution`, the distance between two floats at the current time. A timer is due at the
+        nearest float.
         """
         self._clock_resolution = max(RESOLUTION, resolution)
 
@@ -87,7 +87,7 @@ class Loop(asyncio.BaseEventLoop):
         """Does nothing: requests from other threads wait for the loop's next step."""
 
     def keep(self, task: Task[Any]) -> None:
-        """Keeps a reference to a task until it ends. Otherwise the garbage collector could end a waiting task."""
+        """Keeps a reference to a task until the task ends. Otherwise the garbage collector could end a waiting task."""
         if len(self.tasks) >= self.room:
             self.tasks = [each for each in self.tasks if not each.done()]
             self.room = max(FEW_TASKS, 2 * len(self.tasks))
@@ -179,8 +179,8 @@ class Loop(asyncio.BaseEventLoop):
         sock: Optional[socket.socket] = None,
         **more: Any,
     ) -> tuple[Transport, Protocol]:
-        """Creates a transport on the task's host, or on the host with the local address, and returns the transport and its protocol.
-        With `sock`, the transport uses this simulated socket and its queued datagrams.
+        """Creates a transport on the task's host, or on the host with the local address, and returns the transport and its
+        protocol. With `sock`, the transport uses this simulated socket and its queued datagrams.
         """
         if sock is not None:
             endpoint = simulated(sock).endpoint()
@@ -225,7 +225,7 @@ class Loop(asyncio.BaseEventLoop):
 
 
 def refusing(text: str) -> Callable[..., NoReturn]:
-    """Returns a method that raises NotImplementedError with this advice."""
+    """Returns a method of the loop that raises NotImplementedError with this advice."""
 
     def refuse(loop: Loop, *arguments: Any, **keywords: Any) -> NoReturn:
         raise NotImplementedError(text)

@@ -24,8 +24,8 @@ class Names:
         self.numbers = numbers  # addresses as a history's numbers
 
     def address_of(self, name: str, version: int = 4) -> str:
-        """Returns a host's address in an IP version, from the host's name; an address of a host stays the same. gaierror: there is no
-        such host.
+        """Returns a host's address in an IP version, from the host's name; an address of a host stays the same. gaierror: there is
+        no such host.
         """
         if name in OWN:
             return current_host().address
@@ -36,8 +36,8 @@ class Names:
         return self.hosts[name].address_for(version)
 
     def addresses_of(self, host: Any, port: Any, family: int = 0, type: int = 0, proto: int = 0, flags: int = 0) -> list[Any]:
-        """Returns a host's addresses like getaddrinfo. gaierror: there is no such host or service, or the host has no address in this
-        family.
+        """Returns a host's addresses like getaddrinfo. gaierror: there is no such host or service, or the host has no address in
+        this family.
         """
         is_stream = type & ~FLAGS == socket.SOCK_STREAM
         texts = self._texts_of(host, is_passive=bool(flags & socket.AI_PASSIVE))
@@ -75,7 +75,7 @@ class Names:
         return self.hosts[address].name if address in self.hosts else name, [], [address]
 
     def functions(self) -> dict[tuple[ModuleType, str], Either]:
-        """Returns the system's functions for names, answered from the hosts."""
+        """Returns the makers of the run's functions for names, by module and name."""
         functions: dict[str, Either] = {
             "getaddrinfo": lambda own: self.addresses_of,
             "gethostbyname": lambda own: lambda name: self.by_name(name)[2][0],

@@ -93,8 +93,8 @@ class Network(DisturbingCalls, Traffic):
     def host(self, *addresses: str, name: Optional[str] = None) -> Host:
         """Returns the host with these addresses, creating the host if necessary. The first address must be IPv4.
 
-        Other hosts also find the host by `name`. Histories contain the first address in place of an IPv6 address. ValueError: another
-        host has an address or the name.
+        Other hosts also find the host by `name`. Histories contain the first address in place of an IPv6 address. ValueError:
+        another host has an address or the name.
         """
         first = str(ipaddress.IPv4Address(addresses[0]))
         if first in self.hosts:
@@ -155,14 +155,14 @@ class Network(DisturbingCalls, Traffic):
         return link
 
     def drawn_of(self, link: Link) -> tuple[Optional[LateOf], Optional[IsTwice]]:
-        """Returns the functions for packets' extra ms on a link, and for doubled packets; None for an effect that its words lack."""
+        """Returns the functions for late and doubled packets on a link; None for an effect that the link's words lack."""
         return effects_of_words(link.options.extra, self.seed, link.pipe)
 
     def path(
         self, one: Host, other: Host, options: Optional[str] = None, back: Optional[str] = None, *, preset: Optional[str] = None
     ) -> tuple[Link, Link]:
-        """Creates the links from `one` to `other` and back, and returns both. Without `back`, both use `options`. With a preset such
-        as `lte`, `other` is the server.
+        """Creates the links from `one` to `other` and back, and returns both. Without `back`, both use `options`. With a preset
+        such as `lte`, `other` is the server.
 
         ValueError: there is no such preset, or a link exists already.
         """
@@ -173,8 +173,9 @@ class Network(DisturbingCalls, Traffic):
         return self.link(one, other, options), self.link(other, one, options if back is None else back)
 
     def route(self, near: Host, target: Host, via: Host) -> None:
-        """Makes datagrams from `near` to `target` use the link to `via`. Without a route, datagrams use the fewest links. ValueError:
-        there is no link from `near` to `via`."""
+        """Makes datagrams from `near` to `target` use the link to `via`. Without a route, datagrams use the fewest links.
+        ValueError: there is no link from `near` to `via`.
+        """
         if (near, via) not in self.links:
             raise ValueError(f"there is no link from {near.name} to {via.name}")
         self.routes.give(near, target, self.links[near, via])
@@ -260,7 +261,7 @@ class Network(DisturbingCalls, Traffic):
         self.close()
 
     def waiting(self) -> str:
-        """Returns a line for each waiting task, with the place in the code where the task waits; an empty text without such tasks."""
+        """Returns a line for each waiting task, with the place in the code where it waits; an empty text without such tasks."""
         text = waiting(self.loop)
         return f"\n{text.strip()}" if text else ""
 

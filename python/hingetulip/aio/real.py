@@ -1,5 +1,5 @@
-"""Refuses or reports real calls during a run in simulated time. Python's audit events reveal some calls in advance, which are refused
-in the run's threads; others are reported.
+"""Refuses or reports real calls during a run in simulated time. Python's audit events reveal some calls in advance, which are
+refused in the run's threads; others are reported.
 """
 
 from __future__ import annotations
@@ -38,8 +38,8 @@ UNHEARD = (  # functions without an audit event
 
 
 class RealUses:
-    """The real calls during a network's runs, for the report. Allowed are system sockets in other threads, processes, calls of C code,
-    and system descriptors that the loop watches.
+    """The real calls during a network's runs, for the report. Allowed are system sockets in other threads, processes, calls of C
+    code, and system descriptors that the loop watches.
     """
 
     def __init__(self) -> None:
@@ -75,8 +75,8 @@ class RealUses:
         return True
 
     def counted(self, name: str) -> Either:
-        """Returns the maker of a version that counts calls, for a function without an audit event. Calls from the module `subprocess`
-        don't count here, since an audit event of that module counts them.
+        """Returns the maker of a version that counts calls, for a function without an audit event. Calls from the module
+        `subprocess` don't count here, since an audit event of that module counts them.
         """
 
         def in_run(own: Function) -> Function:

@@ -24,8 +24,9 @@ class Selecting:
         """Returns the result of a call, once a descriptor is ready or after the timeout. `nothing` is the result without a ready
         descriptor, and `scale` the timeout's units in a second.
 
-        A call for system descriptors alone waits in real time in the loop's thread, and in other threads if the run has processes. A call
-        that `has_own` timers, like another event loop's, never does. RealTimeError: the loop's thread would wait for a simulated socket.
+        A call for system descriptors alone waits in real time in the loop's thread, and in other threads if the run has processes.
+        A call that `has_own` timers, like another event loop's, never does. RealTimeError: the loop's thread would wait for a
+        simulated socket.
         """
         answers = [nothing]
 
@@ -53,7 +54,9 @@ class Selecting:
         return answers[0]
 
     def is_simulated(self, ask: Ask, nothing: Any) -> bool:
-        """Returns whether a call concerns a simulated socket: whether it returns any descriptor if all simulated sockets are readable."""
+        """Returns whether a call concerns a simulated socket: whether it returns any descriptor if all simulated sockets are
+        readable.
+        """
         ask(0)  # lets each simulated socket open its descriptor
         self.descriptors.settle(are_all=True)
         has_result = ask(0) != nothing

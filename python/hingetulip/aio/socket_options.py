@@ -61,7 +61,9 @@ def set_option(endpoint: Endpoint, level: int, name: int, value: Any) -> None:
 
 
 def option(known: Mapping[tuple[int, int], Any], level: int, name: int, length: int) -> Any:
-    """Returns an option's value, from the socket's options `known` or by default: a number, or that many bytes if `length` isn't 0."""
+    """Returns an option's value, from the socket's options `known` or by default: a number, or that many bytes if `length`
+    isn't 0.
+    """
     value = known.get((level, name), DEFAULTS.get((level, name), 0))
     if length:
         return struct.pack("=i", value)[:length] if isinstance(value, int) else bytes(value)[:length]

@@ -91,8 +91,8 @@ def note(thing: Any) -> None:
 
 @functools.lru_cache(1)
 def note_all() -> None:
-    """Adds all C functions and types that exist, again after each import. Libraries such as eventlet load a second copy of a module, to
-    have its original functions.
+    """Adds all C functions and types that exist, again after each import. Libraries such as eventlet load a second copy of a
+    module, to have its original functions.
     """
     for thing in gc.get_objects():
         note(thing)
@@ -184,8 +184,8 @@ def in_c(place: Any, name: str) -> Any:
 
 @contextmanager
 def switched(functions: Mapping[tuple[Any, str], Either]) -> Iterator[None]:
-    """Replaces C functions and C types' methods in the run's threads, within the context. `functions` contains the makers of the run's
-    versions, by module or type and name. Copies of modules that the run loads change, too.
+    """Replaces C functions and C types' methods in the run's threads, within the context. `functions` contains the makers of the
+    run's versions, by module or type and name. Copies of modules that the run loads change, too.
     """
     backs: dict[object, Callable[[], None]] = {}  # functions that restore the originals
     wanted = [(in_c(place, name), name, in_run) for (place, name), in_run in functions.items()]

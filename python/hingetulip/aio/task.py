@@ -14,7 +14,7 @@ T = TypeVar("T")
 
 
 class Task(asyncio.Task[T]):
-    """A task whose hash is its number, so that sets of tasks, as in asyncio.wait or a TaskGroup, have the same order in each run."""
+    """A task whose hash is its number, so that sets of tasks, as in asyncio.wait, have the same order in each run."""
 
     def __init__(self, coroutine: Coroutine[Any, Any, T], *, loop: Loop, **more: Any) -> None:
         loop.count += 1

@@ -35,7 +35,7 @@ class ThreadFunctions:
         return sleep
 
     def start_new_thread(self, own: Function) -> Function:
-        """Returns the function that starts a thread in all versions of Python."""
+        """Returns `_thread.start_new_thread`, for code that starts threads without `threading`, and for older Pythons."""
         return lambda *arguments: self.baton.start(lambda body: own(body, ()), Member(), *arguments)
 
     def start_joinable_thread(self, own: Function) -> Function:
@@ -103,7 +103,9 @@ class ThreadFunctions:
         return acquire
 
     def acquire_again(self, own: Function) -> Function:
-        """Returns the `acquire` of a reentrant lock, which only the thread that becomes the owner can call successfully."""
+        """Returns the `acquire` of a reentrant lock. The waiting thread makes the system's call itself, since the caller becomes
+        the owner.
+        """
 
         def is_free(lock: Any) -> bool:
             return own(lock, False) and not lock.release()

@@ -51,8 +51,8 @@ class Traffic:
         self._ways: dict[tuple[Host, Address, Address, type], Way] = {}  # the cache of ways
 
     def send(self, near: Host, datagram: Datagram, is_heard: bool = True) -> Optional[OSError]:
-        """Sends or forwards a host's datagram; returns the system's error, for example without a route to the target. `is_heard` says
-        whether the host itself receives its datagrams to a group. RuntimeError: the run has ended.
+        """Sends or forwards a host's datagram; returns the system's error, for example without a route to the target. `is_heard`
+        says whether the host itself receives its datagrams to a group. RuntimeError: the run has ended.
         """
         if self.closing or not near.is_up:
             if self.loop.is_closed():
@@ -67,7 +67,9 @@ class Traffic:
         return self.take(way, datagram)
 
     def _way_to(self, near: Host, datagram: Datagram) -> Optional[Way]:
-        """Returns the way of a datagram to another host over the next link, from the cache or a new one; None for other datagrams."""
+        """Returns the way of a datagram to another host over the next link, from the cache or a new one; None for other
+        datagrams.
+        """
         target = self.hosts.get(datagram.target[0])
         link = None if target is None or target is near else self.routes.next(near, target)
         if link is None:
@@ -137,8 +139,8 @@ class Traffic:
         return None
 
     def _enter(self, way: Way, datagram: Datagram, length: int, number: int, is_second: bool = False) -> None:
-        """Submits a datagram to the emulator as the packet with this number on a link, and records the outcome. The second copy of a
-        doubled packet draws no word, so random losses never affect the copy.
+        """Submits a datagram to the emulator as the packet with this number on a link, and records the outcome. The second copy of
+        a doubled packet draws no word, so random losses never affect the copy.
         """
         self.rows += 1
         link, now = way.link, self.loop.clock.now

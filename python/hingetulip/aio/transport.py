@@ -55,8 +55,8 @@ class Transport(asyncio.DatagramTransport):
     def sendto(self, data: Data, addr: Optional[Any] = None) -> None:
         """Sends a datagram. As in asyncio, the protocol's `error_received` gets the system's errors.
 
-        OSError: the transport has no peer, and there is no address. TypeError: the data isn't bytes. ValueError: the address isn't the
-        peer's.
+        OSError: the transport has no peer, and there is no address. TypeError: the data isn't bytes. ValueError: the address isn't
+        the peer's.
         """
         if not isinstance(data, (bytes, bytearray, memoryview)):
             raise TypeError(f"data has to be bytes, not {type(data).__name__}")
