@@ -104,8 +104,7 @@ class Deliveries(Answers[Delivery]):
 
 class Packets(Batch):
     """Packets for `submit_many`. You can change a column between calls: single items, or all with
-    `packets.moment[:] = array("Q", moments)`, or with numpy with `numpy.asarray(packets.moment)[:] = moments`.
-    """
+    `packets.moment[:] = array("Q", moments)`, or with numpy with `numpy.asarray(packets.moment)[:] = moments`."""
 
     LAYOUT = PACKET
     moment = Column("The moments of arrival, in ns: 0 to 2^62.")

@@ -1,6 +1,5 @@
 """Base classes and functions that shapers, callers, audits and services share. They allow only one call at a time, and keep the
-library's memory until `close` frees it.
-"""
+library's memory until `close` frees it."""
 
 from __future__ import annotations
 
@@ -38,8 +37,7 @@ def encode_line(line: Line) -> bytes:
 
 def secret() -> tuple[c_uint64, c_uint64]:
     """Returns a random key for a flow table, so that an attacker can't choose packets that slow the table. No result depends on the
-    key.
-    """
+    key."""
     high, low = SECRET.unpack(urandom(SECRET.size))
     return c_uint64(high), c_uint64(low)
 
@@ -241,8 +239,7 @@ class Calls(ABC):
 
     def collect(self, moment: int) -> list[Delivery]:
         """Moves the clock forward to `moment` ns, and returns the packets that are due and leave, in the order in which they are
-        due.
-        """
+        due."""
         with self._turn:
             self._set_moment(moment)
             records = self._due()

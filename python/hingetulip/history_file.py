@@ -69,8 +69,7 @@ class Recording:
 
     def entry(self, *arguments: Any) -> tuple[Any, ...]:
         """Returns the arguments of a library call that writes an entry: the caller, `arguments` and the buffer. Frequent calls
-        share them.
-        """
+        share them."""
         return CALLER, *arguments, self._place, self._room, byref(self._length)
 
     def add(self, call: Callable[..., int], entry: tuple[Any, ...]) -> None:

@@ -11,8 +11,7 @@ class Layout:
 
     def __init__(self, text: str) -> None:
         """Reads the fields from a text such as `Q moment, I src dst, 2x`: codes of the module `struct`, each before the names of
-        its fields. The code `x` stands for reserved bytes.
-        """
+        its fields. The code `x` stands for reserved bytes."""
         self.codes: dict[str, str] = {}  # the fields' codes, by name
         for code, *names in map(str.split, text.split(",")):
             self.codes.update(dict.fromkeys(names or ["reserved"], code))

@@ -64,8 +64,7 @@ def failure(status: int) -> HingetulipError:
 
 def places() -> Iterator[str]:
     """Yields the paths at which the library may be: beside this module, in a clone's `release`, in the `lib` of each enclosing
-    folder, and in the system's folders.
-    """
+    folder, and in the system's folders."""
     here = Path(__file__).resolve().parent
     folders = [here]
     clone = here.parents[1]
@@ -93,8 +92,7 @@ def load(place: str) -> PyDLL:
 
 def find_library() -> tuple[PyDLL, str]:
     """Returns the library and its path: from HINGETULIP_LIBRARY, or else the first of `places` that can be loaded. ImportError: no
-    library can be loaded.
-    """
+    library can be loaded."""
     path = os.environ.get("HINGETULIP_LIBRARY")
     faults = []
     for place in [path] if path else places():

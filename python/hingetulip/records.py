@@ -45,8 +45,7 @@ class Fate(NamedTuple):
 
 class Delivery(NamedTuple):
     """A packet that leaves the emulator at the moment `due`. `packet` is the number in the packet's `Fate`, and `start` the moment
-    when its transmission began.
-    """
+    when its transmission began."""
 
     due: int
     packet: int

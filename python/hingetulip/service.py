@@ -29,8 +29,7 @@ REST = 20e-6  # the s that the thread then sleeps
 
 def retried(call: Callable[..., int], *arguments: Any) -> int:
     """Returns the status of a call, repeated until no other caller is in a call. Most calls end at once, so a thread sleeps only
-    after some tries.
-    """
+    after some tries."""
     tries = 0
     while True:
         status = call(*arguments)
@@ -83,8 +82,7 @@ class Caller(Calls):
 
     def _last_records(self, copy_records: Callable[..., int], layout: Layout) -> Union[Array[c_char], memoryview]:
         """Returns the records of the last call, which the library keeps for this caller. `copy_records` is the library's function
-        that copies them, and `_number` contains their number.
-        """
+        that copies them, and `_number` contains their number."""
         count = self._number.value
         if count == 0:
             return NOTHING
@@ -124,8 +122,7 @@ class Service(Closing):
 
     def history(self, path: Union[str, PathLike[str]]) -> None:
         """Sets the history's file, which is created or emptied. ValueError: there is a file already, or `take` has moved entries
-        before.
-        """
+        before."""
         with self._turn:
             if self._file is not None or self._taken:
                 raise ValueError("the history has a file, or a part of it was taken before")

@@ -28,8 +28,7 @@ class Listing:
 
     def new_room(self, count: int) -> tuple[memoryview, tuple[Any, ...]]:
         """Returns a buffer for `count` records, and the call's arguments. A tuple contains both, so that threads always see a
-        matching pair.
-        """
+        matching pair."""
         records = bytearray(self.size * count)
         place = byref((c_char * len(records)).from_buffer(records))
         return memoryview(records), (*self.before, place, c_size_t(count), byref(self.count))
@@ -56,8 +55,7 @@ class Shaper(Calls, Closing):
 
     def __init__(self, rule: Rule = Rule.ORDERED, seed: Optional[int] = None) -> None:
         """Opens a shaper. `rule` determines the order of a link's packets, and `seed` the words of packets without a word.
-        RangeError: there is no such rule.
-        """
+        RangeError: there is no such rule."""
         if rule not in (Rule.ORDERED, Rule.FREE):
             raise RangeError(f"rule {rule!r} is neither ORDERED nor FREE")
         self.__del__()  # closes the handle of an earlier call of __init__
@@ -139,8 +137,7 @@ class Shaper(Calls, Closing):
 
     def collect_many(self, moment: int) -> Deliveries:
         """Moves the clock forward to `moment` ns, and returns the packets that are due, as `collect` does, but in the library's
-        format, whose columns you can read at once.
-        """
+        format, whose columns you can read at once."""
         with self._turn:
             self._set_moment(moment)
             return Deliveries(bytearray(self._collected.listed()))

@@ -151,8 +151,7 @@ def left_out(before: str, text: str) -> Advice:
 
 def option_word(kind: str, before: str, text: str, more: Sequence[str] = ()) -> Advice:
     """Returns advice on a word in the place of an option. `before` is the word before it, and `more` lists further words with
-    values.
-    """
+    values."""
     options = OPTIONS.get(kind, [])
     names = [*options, *more]
     if "=" in text:
@@ -195,8 +194,7 @@ def equation(text: str, names: Sequence[str]) -> Optional[Advice]:
 
 def near_option(text: str, names: Sequence[str]) -> Optional[str]:
     """Returns the option that a wrong word means: by another name, by the option's first letters, or misspelt. Returns None if no
-    option resembles the word.
-    """
+    option resembles the word."""
     import difflib  # only a wrong word needs this module
 
     name = OTHER_NAMES.get(text.lower())

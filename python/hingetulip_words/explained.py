@@ -29,8 +29,7 @@ def cause_of(fault: str, words: list[str]) -> Optional[Cause]:
 
 def explained(line: str, fault: str) -> str:
     """Returns a longer text for a program's fault, such as `word 5 '1Mbps': not a bandwidth; write 1Mbit/s` for `word 5: bad
-    number`. A fault that names no word stays the same.
-    """
+    number`. A fault that names no word stays the same."""
     words = words_of(line)
     cause = cause_of(fault, words)
     if cause is None:
@@ -42,8 +41,7 @@ def explained(line: str, fault: str) -> str:
 
 def replaced(line: str, fault: str) -> Optional[str]:
     """Returns the line with the advised word in the wrong word's place, or a pipe's line for a link's words. Returns None if there
-    is no such advice.
-    """
+    is no such advice."""
     words = words_of(line)
     cause = cause_of(fault, words)
     if cause is None:

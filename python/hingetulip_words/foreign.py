@@ -55,8 +55,7 @@ def in_units(bits: Fraction) -> str:
 
 class Meant:
     """The link that another tool's words describe. `left` lists the words that no link supports, and `rest` names and the
-    command.
-    """
+    command."""
 
     def __init__(self, tool: str, words: Sequence[str]) -> None:
         """Reads all words of a tool in the table."""
@@ -127,8 +126,7 @@ class Meant:
 
     def next_value(self, kind: Kind) -> Optional[str]:
         """Reads the next word as an unsupported value, and returns the word; None if it isn't such a value. A correlation is a
-        percentage.
-        """
+        percentage."""
         if not self.is_value() or (kind.name == "correlation" and number(self.words[0], "%") is None):
             return None
         return self.words.pop(0)

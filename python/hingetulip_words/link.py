@@ -26,8 +26,7 @@ ENDED = {"bw": "bw 0", "delay": "delay 0", "queue": "queue 50", "plr": "loss 0%"
 
 class Place(Enum):
     """The kind of text that contains a link's words. Dummynet has neither jitter nor duplicates nor flipped bits: a run adds these
-    effects, from its start.
-    """
+    effects, from its start."""
 
     DUMMYNET = "dummynet"
     RUN = "run"
@@ -75,8 +74,7 @@ class Link(NamedTuple):
 
 class LinkParser:
     """Reads a link's words from left to right: dummynet's options into `options`, by their full names, and other effects into
-    `extra`.
-    """
+    `extra`."""
 
     def __init__(self, text: str, kind: str, place: Place) -> None:
         """Prepares the words before a comment. `kind` is `pipe` or `queue`, and `place` decides which effects may be added."""
@@ -118,8 +116,7 @@ class LinkParser:
 
     def value_of(self, word: str) -> str:
         """Reads the value after an option's word, and returns it. WordError: no word follows, or a blank separates the value from
-        its unit.
-        """
+        its unit."""
         if not self.remaining:
             advice = missing_value(word)
             raise WordError(word, advice._replace(right=MISSING.get(word, advice.right)))
@@ -183,8 +180,7 @@ class LinkParser:
 
     def fields(self) -> str:
         """Reads the fields of a mask, each with its value, and returns their text. WordError: there is no field, or a value is
-        wrong.
-        """
+        wrong."""
         fields: list[str] = []
         while self.following() == "all" or self.following() in FIELD_BITS:
             field = self.remaining.pop(0)
@@ -235,8 +231,7 @@ def read_link(text: str, kind: str = "pipe") -> dict[str, str]:
 
 def corrected(text: str, place: Place = Place.KERNELS, kind: str = "pipe") -> Optional[str]:
     """Returns the words that the user probably meant: netem's words converted, or each wrong word replaced as advised. Returns None
-    if some advice leaves a choice.
-    """
+    if some advice leaves a choice."""
     words = [word.rstrip(",;") for word in text.partition("#")[0].split()]
     text = netem_link(words) or " ".join(words)
     for _ in range(MOST_CORRECTIONS):

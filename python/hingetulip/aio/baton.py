@@ -1,6 +1,5 @@
 """The baton of a run's threads. A single thread runs at a time, and yields instead of waiting, so that the simulated clock
-advances.
-"""
+advances."""
 
 from __future__ import annotations
 
@@ -46,8 +45,7 @@ class Baton:
 
     def start(self, own: Function, member: Member, function: Function, arguments: Any = (), keywords: Any = {}) -> Any:
         """Starts a thread that calls `function`, and returns the result of `own`, the system's function for starting a thread. The
-        thread's first turn is in the loop's next step.
-        """
+        thread's first turn is in the loop's next step."""
         context = contextvars.copy_context()
         joined = os.pipe()  # the thread writes a byte to it once it is a member
 
@@ -104,8 +102,7 @@ class Baton:
 
     def _yield(self, member: Member, ready: Ready, seconds: Optional[float]) -> bool:
         """Lets other threads run until the member's condition is true or its time is over; returns whether the condition is true.
-        Ended: the network is being closed.
-        """
+        Ended: the network is being closed."""
         member.ready = ready
         member.until = NEVER
         if seconds is not None:
@@ -122,8 +119,7 @@ class Baton:
 
     def _wait_outside(self, member: Member, ready: Ready, seconds: Optional[float]) -> bool:
         """Continues a wait outside the run, as an ordinary thread; returns whether the condition is true. If this thread ended
-        instead, a pool's processes that it should end would remain.
-        """
+        instead, a pool's processes that it should end would remain."""
         of_run.discard(threading.get_ident())
         leave()
         until = own_time() + (math.inf if seconds is None else seconds)
@@ -141,8 +137,7 @@ class Baton:
 
     def pauses_clock(self) -> bool:
         """Lets a short real time pass if a member waits for a process. Returns whether the clock must stand still for that member:
-        not if another member's wait ends within the next ns.
-        """
+        not if another member's wait ends within the next ns."""
         if not any(member.is_held() for member in self.members.values()):
             return False
         pause()
@@ -172,8 +167,7 @@ class Baton:
 
     def _comes_back(self) -> bool:
         """Returns whether the member that runs yields or ends in time. Seconds in which the process computes count only if the
-        network is being closed.
-        """
+        network is being closed."""
         seconds = 0
         while seconds < (PATIENCE if self.is_closing else LONGEST):
             processor_time = own_process_time()
@@ -187,8 +181,7 @@ class Baton:
 
     def _lose(self, ident: int) -> None:
         """Removes a member, which continues as an ordinary thread. If the network is open, the run ends at its next step, since it
-        can't continue without the thread. An error here would leave the code that started the thread half done.
-        """
+        can't continue without the thread. An error here would leave the code that started the thread half done."""
         del self.members[ident]
         of_run.discard(ident)
         self.lost = self.lost or ""
@@ -215,8 +208,7 @@ class Baton:
 
     def close(self) -> None:
         """Ends each member at the call in which it waits. If processes of the run still exist, the members continue outside the run
-        instead, as ordinary threads.
-        """
+        instead, as ordinary threads."""
         self.is_closing = True
         self.is_leaving = self.loop.net.real_uses.has_processes()
         with mock.patch.object(threading, "excepthook", quiet(threading.excepthook)):

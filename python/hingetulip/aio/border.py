@@ -29,8 +29,7 @@ FUNCTIONS = {  # the library's functions, each with the types of its result and 
 
 def load_library() -> Optional[Any]:
     """Returns the library hinge-clock.so if it is preloaded, or else loads it from the path in HINGE_CLOCK, or from the folders in
-    PLACES without that variable. Returns None if there is no such library.
-    """
+    PLACES without that variable. Returns None if there is no such library."""
     own = os.environ.get("HINGE_CLOCK")
     paths = [own] if own else [str(PYTHON / place / "hinge-clock.so") for place in PLACES]
     for path in (None, *paths):  # None stands for the process with its preloaded libraries

@@ -27,8 +27,7 @@ def other_threads() -> str:
 
 class Stuck(RuntimeError):
     """Raised if no event can happen any more, or if tasks let no time pass. The message lists the waiting tasks, and the places in
-    the code where they wait.
-    """
+    the code where they wait."""
 
 
 class Clock:

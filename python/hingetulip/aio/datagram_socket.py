@@ -238,8 +238,7 @@ class DatagramSocket(HostlessSocket):
 
     def recvfrom(self, bufsize: int, flags: int = 0) -> tuple[bytes, Any]:
         """Returns the next datagram's data and source. BlockingIOError: none has arrived, and the socket doesn't block.
-        RealTimeError: none has arrived, and the loop's thread would wait.
-        """
+        RealTimeError: none has arrived, and the loop's thread would wait."""
         endpoint = self._await(flags)
         datagram = self._queue[0] if flags & socket.MSG_PEEK else self._queue.popleft()
         return datagram.data[:bufsize], endpoint.own_form(datagram.source)
@@ -258,8 +257,7 @@ class DatagramSocket(HostlessSocket):
 
     def recvmsg(self, bufsize: int, ancbufsize: int = 0, flags: int = 0) -> tuple[bytes, list[Any], int, Any]:
         """Returns the next datagram's data, its time stamp if the socket wants one, MSG_TRUNC if the data is cut off, and the
-        source.
-        """
+        source."""
         self._await(flags)
         datagram = self._queue[0]
         data, source = self.recvfrom(bufsize, flags)

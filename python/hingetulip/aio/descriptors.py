@@ -140,8 +140,7 @@ class Descriptors:
 
     def _count_real_use(self, number: int) -> None:
         """Counts a new descriptor of the system as a real use. RealTimeError: the descriptor is a real network socket's, and the
-        network isn't `real`.
-        """
+        network isn't `real`."""
         if number not in self._others and not self.loop.net.real:
             if family_of(number) != socket.AF_UNIX:
                 raise RealTimeError(SOCKET + ALLOWED)

@@ -21,13 +21,11 @@ class Unmet(RuntimeError):
 
 class Disturbance:
     """A cut, hold, crash or skew, with the number (`met`) of packets, of sockets and tasks, or of looks at the clock that it
-    affected. Disturbances that a seed drew (`is_drawn`) may have no effect.
-    """
+    affected. Disturbances that a seed drew (`is_drawn`) may have no effect."""
 
     def __init__(self, net: DisturbingCalls, kind: str, of: str, seconds: float) -> None:
         """Adds the disturbance to the network's. `of` is the name of a host or link. ValueError: `seconds` is no finite number, or,
-        except for a skew, isn't above 0.
-        """
+        except for a skew, isn't above 0."""
         is_finite = hasattr(seconds, "__float__") and abs(seconds) < math.inf
         if not is_finite or (kind != SKEW and seconds <= 0):
             raise ValueError(f"a {kind} lasts for more than 0 s and no longer than a number says, and not {seconds!r}")
@@ -70,8 +68,7 @@ class DisturbingCalls:
 
     def _links_of(self, of: Union[Host, str], kind: str) -> tuple[str, list[Link]]:
         """Returns the name and the links of a host, or of a single link such as `client > server`. ValueError: there is no such
-        host or link, or the host has no links.
-        """
+        host or link, or the host has no links."""
         if isinstance(of, str) and " > " in of:
             links = [link for link in self.links.values() if link.name == of]
             if not links:
@@ -93,8 +90,7 @@ class DisturbingCalls:
 
     def hold(self, of: Union[Host, str], seconds: float) -> Disturbance:
         """Makes packets wait before the links of a host, or before a single link, for this time. ValueError: the same as from
-        `cut`.
-        """
+        `cut`."""
         return self.disturb(HOLD, seconds, *self._links_of(of, HOLD))
 
     def disturb(self, kind: str, seconds: float, name: str, links: list[Link]) -> Disturbance:
@@ -114,8 +110,7 @@ class DisturbingCalls:
 
     def skew(self, of: Union[Host, str], seconds: float) -> Disturbance:
         """Sets a host's clock `seconds` ahead of the network's time from now on; behind it, if the number is negative. ValueError:
-        there is no such host, or `seconds` is no finite number.
-        """
+        there is no such host, or `seconds` is no finite number."""
         host = self.found(of)
         disturbance = Disturbance(self, SKEW, host.name, seconds)
         host.skew = disturbance

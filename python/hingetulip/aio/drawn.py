@@ -1,6 +1,5 @@
 """Draws packets' words, random numbers of 31 bits, from a seed and a direction. `hinge` draws in the same way with splitmix64, so a
-seed loses the same packets everywhere.
-"""
+seed loses the same packets everywhere."""
 
 from __future__ import annotations
 
@@ -55,8 +54,7 @@ def word(seed: int, direction: int, number: int) -> int:
 
 class Drawn:
     """Draws the words for a direction's packets, numbered from 1. The direction is a pipe's number, or a queue's number +
-    QUEUES.
-    """
+    QUEUES."""
 
     def __init__(self, seed: int, direction: int) -> None:
         self.next = words(seed * SEED + (direction - 1) * DIRECTION & MASK).__next__

@@ -1,6 +1,5 @@
 """Calls the emulator for a network. For a single caller this is faster than Shaper: packets use prepared ways, and results are
-plain numbers.
-"""
+plain numbers."""
 
 from __future__ import annotations
 
@@ -58,8 +57,7 @@ class Way:
 
 class Emulator:
     """Calls a network's shaper at moments that never decrease, so that each call happens at its moment. Only the loop makes calls,
-    so they need no lock. With a history, each call adds an entry.
-    """
+    so they need no lock. With a history, each call adds an entry."""
 
     def __init__(self, shaper: Shaper, history: Optional[Recording]) -> None:
         self.shaper = shaper
@@ -90,8 +88,7 @@ class Emulator:
 
     def configure(self, moment: int, line: str) -> None:
         """Applies a configuration line from this moment on. LineError: the line is wrong. RefusedError: the line's pipe doesn't
-        exist.
-        """
+        exist."""
         if moment:
             at = self.shaper.advance(moment)
             if self.history is not None:
@@ -104,8 +101,7 @@ class Emulator:
 
     def submit(self, way: Way, moment: int, length: int, word: int) -> tuple[int, int]:
         """Submits a packet with a random word; returns the outcome as a number, and the packet's number. RangeError: the word, from
-        a loss model, isn't in 0 to 2^32 - 1.
-        """
+        a loss model, isn't in 0 to 2^32 - 1."""
         try:
             pack_packet(
                 self._packet, 0, moment, way.source, way.target, word, way.sport, way.dport, length, way.number, way.kind, way.proto

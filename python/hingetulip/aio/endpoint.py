@@ -65,8 +65,7 @@ class Endpoint:
 
     def name(self) -> tuple[Any, ...]:
         """Returns the local address and port, as getsockname does. After connecting, the address is the source of sent
-        datagrams.
-        """
+        datagrams."""
         address, port = self.local
         if self.remote:
             address = self.source_to(self.remote[0])
@@ -90,8 +89,7 @@ class Endpoint:
 
     def target(self, address: Any) -> Address:
         """Returns the address and port to send to, from a host's address or name. gaierror: the address is of another family than
-        the socket.
-        """
+        the socket."""
         name, port = address[0], address[1]
         target = self._target_address(name)
         if self.version == 4 and is_of_6(target) or self.only_6 and not is_of_6(target):
@@ -141,8 +139,7 @@ class Endpoint:
 
     def _source(self, target: str) -> Address:
         """Returns the source address and port for a target, and binds to a free port if necessary. OSError: the host has no address
-        of the target's IP version, or the socket may not send there.
-        """
+        of the target's IP version, or the socket may not send there."""
         if not self.local[1]:
             self.bind(*self.local)
         if target == BROADCAST and not self.broadcasts:
@@ -167,8 +164,7 @@ class Endpoint:
 
     def rank(self) -> int:
         """Returns the endpoint's rank, 0 to 3: among several endpoints at a port, the highest receives a datagram. A peer counts
-        for more than an address.
-        """
+        for more than an address."""
         rank = 0
         if self.remote is not None:
             rank += 2

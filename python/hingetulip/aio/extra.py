@@ -21,8 +21,7 @@ IsTwice = Callable[[int], bool]  # returns whether the packet with this number i
 
 def effects_of_words(extra: Extra, seed: int, pipe: int) -> tuple[Optional[LateOf], Optional[IsTwice]]:
     """Returns the functions for the effects that a link's words request, such as `jitter 10ms duplicate 1%`; None for each effect
-    that the words don't request.
-    """
+    that the words don't request."""
 
     def late_of(number: int) -> int:
         return word(seed, OF_JITTER + pipe, number) % (extra.jitter + 1)

@@ -88,8 +88,7 @@ class Host:
 
     def stop(self) -> int:
         """Crashes the host: closes its sockets and cancels its tasks; until `start` the host neither sends nor receives nor
-        forwards. Returns the number of these sockets and tasks.
-        """
+        forwards. Returns the number of these sockets and tasks."""
         self.is_up = False
         endpoints = [endpoint for at_port in self.sockets.values() for endpoint in at_port]
         for endpoint in endpoints:

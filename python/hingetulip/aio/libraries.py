@@ -1,6 +1,5 @@
 """Replaces functions of some libraries during a run: libraries that keep the system's functions from their import, call them in C
-code, or only accept the system's sockets.
-"""
+code, or only accept the system's sockets."""
 
 from __future__ import annotations
 

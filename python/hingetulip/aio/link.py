@@ -25,8 +25,7 @@ Classifier = Callable[[Datagram], str]
 
 class Words(Protocol):
     """A loss model. For each packet on a link, it returns a random number, the packet's word: the packet is lost if the word is
-    below the loss rate times 2^31.
-    """
+    below the loss rate times 2^31."""
 
     def next(self) -> int:
         """Returns the next packet's word, 0 to 2^31 - 1."""
@@ -91,8 +90,7 @@ class Link:
 
     def _bind_model(self) -> None:
         """Lets the loss model use the network's seed with the link's pipe as direction, and the network's clock, if the model needs
-        them.
-        """
+        them."""
         bind = getattr(self.loss, "bind", None)
         if bind is not None:
             bind(self.net.seed, self.pipe)
@@ -101,14 +99,12 @@ class Link:
 
     def _words_of_class(self, queue: int) -> Words:
         """Returns the words for the packets of a class, with its queue's number: the loss model's, or separate words from
-        the seed.
-        """
+        the seed."""
         return self.loss if self.has_model else Drawn(self.net.seed, QUEUES + queue)
 
     def second_pipe(self, datagram: Datagram, number: int) -> int:
         """Returns the pipe that delays a datagram once more, by its extra ms; 0 if the datagram isn't late. `number` is the
-        packet's. Other packets can overtake late packets.
-        """
+        packet's. Other packets can overtake late packets."""
         if self.late_of is not None and number not in self.late:
             self.late[number] = self.late_of(number)
             if self.late[number]:
@@ -147,14 +143,12 @@ class Link:
 
     def cut(self, seconds: float) -> Disturbance:
         """Makes the link lose all arriving packets for this time. Packets on the link still arrive. ValueError: the time isn't
-        above 0.
-        """
+        above 0."""
         return self.net.disturb(CUT, seconds, self.name, [self])
 
     def hold(self, seconds: float) -> Disturbance:
         """Makes arriving packets wait before the link for this time, and then enter in order. ValueError: the time isn't
-        above 0.
-        """
+        above 0."""
         return self.net.disturb(HOLD, seconds, self.name, [self])
 
     def begin(self, disturbance: Disturbance) -> None:
@@ -171,8 +165,7 @@ class Link:
 
     def _apply(self, disturbance: Disturbance) -> None:
         """Applies the begin or end of a disturbance: configures the pipe for a cut, and sends held datagrams after the last
-        hold.
-        """
+        hold."""
         if disturbance.kind == CUT:
             self.net.obey(self.line)
         while self.held and not self.holds and not self.net.closing:
@@ -200,8 +193,7 @@ class Link:
 
     def change_class(self, name: str, options: str) -> None:
         """Reconfigures the queue of a class, as in `link.change_class("video", "weight 10")`. LineError: a word is wrong, or there
-        are no words.
-        """
+        are no words."""
         self._configure_class(name, Options(nonempty(options), "queue", self.has_model))
 
     def _configure(self, options: Options) -> None:

@@ -74,8 +74,7 @@ class Loop(asyncio.BaseEventLoop):
 
     def resolve(self, resolution: float) -> None:
         """Sets the clock's resolution to `resolution`, the distance between two floats at the current time. A timer is due at the
-        nearest float.
-        """
+        nearest float."""
         self._clock_resolution = max(RESOLUTION, resolution)
 
     def _process_events(self, events: list[asyncio.Handle]) -> None:
@@ -100,8 +99,7 @@ class Loop(asyncio.BaseEventLoop):
 
     def run_in_executor(self, executor: Any, func: Callable[..., T], *args: Any) -> asyncio.Future[T]:
         """Runs a function in a new thread of the run, which yields instead of waiting, or in this thread if the network is `real`.
-        Returns the future for the function's result.
-        """
+        Returns the future for the function's result."""
         future: asyncio.Future[T] = self.create_future()
 
         def end(setter: Callable[[Any], None], value: object) -> None:
@@ -180,8 +178,7 @@ class Loop(asyncio.BaseEventLoop):
         **more: Any,
     ) -> tuple[Transport, Protocol]:
         """Creates a transport on the task's host, or on the host with the local address, and returns the transport and its
-        protocol. With `sock`, the transport uses this simulated socket and its queued datagrams.
-        """
+        protocol. With `sock`, the transport uses this simulated socket and its queued datagrams."""
         if sock is not None:
             endpoint = simulated(sock).endpoint()
         else:
@@ -197,8 +194,7 @@ class Loop(asyncio.BaseEventLoop):
 
     def _bound(self, local: Optional[Address], remote: Optional[Address], family: int, shares: bool) -> Endpoint:
         """Returns an endpoint with a local address, connected to the remote address if any. NotImplementedError: the address is
-        a Unix socket's. OSError: the local address is another host's, or the port is in use. gaierror: there is no such host.
-        """
+        a Unix socket's. OSError: the local address is another host's, or the port is in use. gaierror: there is no such host."""
         if family == socket.AF_UNIX or isinstance(local or remote, str):
             raise NotImplementedError(NO_SYSTEM)
         names = [plain(address[0] or "localhost") for address in (local, remote) if address]

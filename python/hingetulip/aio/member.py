@@ -32,8 +32,7 @@ def quiet(hook: Callable[[Any], object]) -> Callable[[Any], object]:
 
 def bounded_pipe(seconds: float = PATIENCE) -> tuple[int, int]:
     """Returns the descriptors of a pipe whose reads end after `seconds`. The run uses such reads as waits, since C code's sleeps
-    and waits for descriptors would count as real calls, and reads don't.
-    """
+    and waits for descriptors would count as real calls, and reads don't."""
     reader, writer = socket.socketpair()
     reader.setsockopt(socket.SOL_SOCKET, socket.SO_RCVTIMEO, struct.pack("@ll", int(seconds), round(seconds % 1 * 1e6)))
     return reader.detach(), writer.detach()
@@ -77,8 +76,7 @@ class Member:
 
     def polling_wait(self, now: int) -> float:
         """Records that the thread asks for descriptors without a wait, and returns the s that it waits nevertheless: 1 ns if it
-        asks again at the same moment, since a loop until a deadline would never end otherwise.
-        """
+        asks again at the same moment, since a loop until a deadline would never end otherwise."""
         is_again = self.polled == now
         self.polled = now
         return 1 / NS if is_again else 0.0

@@ -25,8 +25,7 @@ class Names:
 
     def address_of(self, name: str, version: int = 4) -> str:
         """Returns a host's address in an IP version, from the host's name; an address of a host stays the same. gaierror: there is
-        no such host.
-        """
+        no such host."""
         if name in OWN:
             return current_host().address
         if name in self.numbers:
@@ -37,8 +36,7 @@ class Names:
 
     def addresses_of(self, host: Any, port: Any, family: int = 0, type: int = 0, proto: int = 0, flags: int = 0) -> list[Any]:
         """Returns a host's addresses like getaddrinfo. gaierror: there is no such host or service, or the host has no address in
-        this family.
-        """
+        this family."""
         is_stream = type & ~FLAGS == socket.SOCK_STREAM
         texts = self._texts_of(host, is_passive=bool(flags & socket.AI_PASSIVE))
         number = port_of(port, is_stream)
@@ -56,8 +54,7 @@ class Names:
 
     def _texts_of(self, host: Any, is_passive: bool) -> tuple[str, ...]:
         """Returns the addresses for a host's name or address; for None those of the current host or, if a socket waits there, the
-        addresses that stand for all. gaierror: there is no such host.
-        """
+        addresses that stand for all. gaierror: there is no such host."""
         if host is None:
             return (ANY, ANY_OF_6) if is_passive else current_host().addresses
         name = plain(host)

@@ -174,8 +174,7 @@ class Network(DisturbingCalls, Traffic):
 
     def route(self, near: Host, target: Host, via: Host) -> None:
         """Makes datagrams from `near` to `target` use the link to `via`. Without a route, datagrams use the fewest links.
-        ValueError: there is no link from `near` to `via`.
-        """
+        ValueError: there is no link from `near` to `via`."""
         if (near, via) not in self.links:
             raise ValueError(f"there is no link from {near.name} to {via.name}")
         self.routes.give(near, target, self.links[near, via])

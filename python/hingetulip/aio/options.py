@@ -18,13 +18,11 @@ def nonempty(words: str) -> str:
 
 class Options:
     """The options of a pipe or queue. `settings` contains the values by full names, and `extra` the random effects that dummynet
-    lacks, such as jitter and duplicates.
-    """
+    lacks, such as jitter and duplicates."""
 
     def __init__(self, text: str = "", kind: str = "pipe", has_model: bool = False, place: Place = Place.DUMMYNET) -> None:
         """Reads the words. `has_model` adds the loss rate for a loss model, if the words have none. LineError: a word is wrong in a
-        text of the kind `place`.
-        """
+        text of the kind `place`."""
         try:
             self.settings, self.extra = read_words(text, place, kind)
         except WordError as wrong:

@@ -1,6 +1,5 @@
 """Refuses or reports real calls during a run in simulated time. Python's audit events reveal some calls in advance, which are
-refused in the run's threads; others are reported.
-"""
+refused in the run's threads; others are reported."""
 
 from __future__ import annotations
 
@@ -39,8 +38,7 @@ UNHEARD = (  # functions without an audit event
 
 class RealUses:
     """The real calls during a network's runs, for the report. Allowed are system sockets in other threads, processes, calls of C
-    code, and system descriptors that the loop watches.
-    """
+    code, and system descriptors that the loop watches."""
 
     def __init__(self) -> None:
         self.threads: dict[str, None] = {}  # the names of other threads that used system sockets, in order
@@ -76,8 +74,7 @@ class RealUses:
 
     def counted(self, name: str) -> Either:
         """Returns the maker of a version that counts calls, for a function without an audit event. Calls from the module
-        `subprocess` don't count here, since an audit event of that module counts them.
-        """
+        `subprocess` don't count here, since an audit event of that module counts them."""
 
         def in_run(own: Function) -> Function:
             def call(*arguments: Any, **keywords: Any) -> Any:

@@ -55,8 +55,7 @@ class Selecting:
 
     def is_simulated(self, ask: Ask, nothing: Any) -> bool:
         """Returns whether a call concerns a simulated socket: whether it returns any descriptor if all simulated sockets are
-        readable.
-        """
+        readable."""
         ask(0)  # lets each simulated socket open its descriptor
         self.descriptors.settle(are_all=True)
         has_result = ask(0) != nothing

@@ -45,8 +45,7 @@ STEADY = (
 @contextmanager
 def simulated(loop: Loop, source: random.Random) -> Iterator[None]:
     """Makes `time`, `datetime.now` and OpenSSL's clock return the simulated time, and draws the numbers of `random`, `secrets`,
-    `os.urandom`, OpenSSL and NumPy from `source`, within the context. RuntimeError: another run is under way.
-    """
+    `os.urandom`, OpenSSL and NumPy from `source`, within the context. RuntimeError: another run is under way."""
     if not ONE.acquire(blocking=False):
         raise RuntimeError("another run of simulated time is under way in this process, in another thread or around this one")
     try:
@@ -162,8 +161,7 @@ def bytes_from(source: random.Random) -> Either:
 
 def uuid_from(times: TimeFunctions, source: random.Random) -> Either:
     """Returns a maker of the function that generates UUIDs from the time: from the simulated time and from `source`. The system's
-    library would ask a daemon.
-    """
+    library would ask a daemon."""
 
     def generate() -> tuple[bytes, int]:
         ticks = times.ns() // 100 + TICKS_TO_1970

@@ -41,8 +41,7 @@ def group_of(level: int, value: bytes) -> str:
 
 def set_option(endpoint: Endpoint, level: int, name: int, value: Any) -> None:
     """Sets an option on a host's socket. OSError: the socket joins a group twice, leaves a group without membership, or sets
-    IPV6_V6ONLY after it was bound.
-    """
+    IPV6_V6ONLY after it was bound."""
     option = level, name
     if option in SHARED:
         endpoint.shares = bool(option_number(value))
@@ -62,8 +61,7 @@ def set_option(endpoint: Endpoint, level: int, name: int, value: Any) -> None:
 
 def option(known: Mapping[tuple[int, int], Any], level: int, name: int, length: int) -> Any:
     """Returns an option's value, from the socket's options `known` or by default: a number, or that many bytes if `length`
-    isn't 0.
-    """
+    isn't 0."""
     value = known.get((level, name), DEFAULTS.get((level, name), 0))
     if length:
         return struct.pack("=i", value)[:length] if isinstance(value, int) else bytes(value)[:length]

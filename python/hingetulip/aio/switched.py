@@ -80,8 +80,7 @@ switchers: list[Callable[[], None]] = []  # the function that changes the copies
 
 def note(thing: Any) -> None:
     """Adds an object to the known C functions or types, if it is one. A function that a run has changed belongs to no module
-    meanwhile, and is known already.
-    """
+    meanwhile, and is known already."""
     if type(thing) is BuiltinFunctionType and isinstance(thing.__self__, ModuleType):
         module = thing.__self__
         known.setdefault((module.__name__, thing.__name__), {}).setdefault(id(module), thing)
@@ -92,8 +91,7 @@ def note(thing: Any) -> None:
 @functools.lru_cache(1)
 def note_all() -> None:
     """Adds all C functions and types that exist, again after each import. Libraries such as eventlet load a second copy of a
-    module, to have its original functions.
-    """
+    module, to have its original functions."""
     for thing in gc.get_objects():
         note(thing)
 
@@ -108,8 +106,7 @@ def switch_copy(name: str) -> None:
 
 def switchable(module: ModuleType, name: str) -> list[SwitchableFunction]:
     """Returns the C functions with a name in a module and in its copies, even if the name now refers to another function. Omits
-    functions that can't be changed.
-    """
+    functions that can't be changed."""
     note_all()
     note(getattr(module, name, None))
     functions = known.get((module.__name__, name), {}).values()
@@ -158,8 +155,7 @@ def bound(own: ClassMethodDescriptorType, kind: type, *arguments: Any, **keyword
 
 def switch_method(kind: type, name: str, in_run: Either) -> Callable[[], None]:
     """Replaces a method of a C type by a method that calls the run's version in the run's threads; returns a function that restores
-    the original.
-    """
+    the original."""
     (names,) = gc.get_referents(kind.__dict__)
     own = names[name]
 
@@ -185,8 +181,7 @@ def in_c(place: Any, name: str) -> Any:
 @contextmanager
 def switched(functions: Mapping[tuple[Any, str], Either]) -> Iterator[None]:
     """Replaces C functions and C types' methods in the run's threads, within the context. `functions` contains the makers of the
-    run's versions, by module or type and name. Copies of modules that the run loads change, too.
-    """
+    run's versions, by module or type and name. Copies of modules that the run loads change, too."""
     backs: dict[object, Callable[[], None]] = {}  # functions that restore the originals
     wanted = [(in_c(place, name), name, in_run) for (place, name), in_run in functions.items()]
 

@@ -79,8 +79,7 @@ def threads_held(baton: Baton) -> Iterator[None]:
 @contextmanager
 def simulated_system(net: Network) -> Iterator[None]:
     """Lets this thread's new datagram sockets and host names belong to the network, and refuses real communication, within the
-    context. RealTimeError, from a new socket: its descriptor is a simulated socket's.
-    """
+    context. RealTimeError, from a new socket: its descriptor is a simulated socket's."""
     own: Any = socket.socket.__new__
 
     def make(

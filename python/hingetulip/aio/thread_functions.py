@@ -104,8 +104,7 @@ class ThreadFunctions:
 
     def acquire_again(self, own: Function) -> Function:
         """Returns the `acquire` of a reentrant lock. The waiting thread makes the system's call itself, since the caller becomes
-        the owner.
-        """
+        the owner."""
 
         def is_free(lock: Any) -> bool:
             return own(lock, False) and not lock.release()

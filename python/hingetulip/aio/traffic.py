@@ -52,8 +52,7 @@ class Traffic:
 
     def send(self, near: Host, datagram: Datagram, is_heard: bool = True) -> Optional[OSError]:
         """Sends or forwards a host's datagram; returns the system's error, for example without a route to the target. `is_heard`
-        says whether the host itself receives its datagrams to a group. RuntimeError: the run has ended.
-        """
+        says whether the host itself receives its datagrams to a group. RuntimeError: the run has ended."""
         if self.closing or not near.is_up:
             if self.loop.is_closed():
                 raise RuntimeError(
@@ -68,8 +67,7 @@ class Traffic:
 
     def _way_to(self, near: Host, datagram: Datagram) -> Optional[Way]:
         """Returns the way of a datagram to another host over the next link, from the cache or a new one; None for other
-        datagrams.
-        """
+        datagrams."""
         target = self.hosts.get(datagram.target[0])
         link = None if target is None or target is near else self.routes.next(near, target)
         if link is None:
@@ -104,8 +102,7 @@ class Traffic:
 
     def _send_to_group(self, near: Host, datagram: Datagram, is_heard: bool) -> Optional[OSError]:
         """Sends a group's datagram over each link of the host, and returns the first error, if any. Other hosts don't forward the
-        datagram.
-        """
+        datagram."""
         group = datagram.target[0]
         self.numbers.setdefault(group, number(group))
         if is_heard:
@@ -140,8 +137,7 @@ class Traffic:
 
     def _enter(self, way: Way, datagram: Datagram, length: int, number: int, is_second: bool = False) -> None:
         """Submits a datagram to the emulator as the packet with this number on a link, and records the outcome. The second copy of
-        a doubled packet draws no word, so random losses never affect the copy.
-        """
+        a doubled packet draws no word, so random losses never affect the copy."""
         self.rows += 1
         link, now = way.link, self.loop.clock.now
         if link.classify is None:
