@@ -112,7 +112,7 @@ int main(int count, char **words) {
     begin_ways(&host);
     host.unread = begin_unread(host.carrier.ways, &host.clock);
     bool spins = host.page->realtime == HAS_IT && !host.clock.stands;
-    struct waits *waits = begun_waits(&host.clock, host.carrier.polled, host.carrier.ways, ended, host.control, spins);
+    struct waits *waits = new_waits(&host.clock, host.carrier.polled, host.carrier.ways, ended, host.control, spins);
     host.page->state = RUNNING;
     bool is_whole = run(&host, waits);
     remark_lateness(&host, now(&host.clock), true);
