@@ -32,7 +32,7 @@ static const char *obey_later(struct host *host, const char *rest, uint64_t mome
     const char *wrong = wrong_with_change(host, rest);
     if (wrong) return wrong;
     insert_line(host->changes, moment + later, rest);
-    answer->line = behind_cut(host->cuts, rest);
+    answer->line = line_behind_cut(host->cuts, rest);
     return NULL;
 }
 
@@ -46,7 +46,7 @@ static const char *obey_outage(struct host *host, const char *rest, uint64_t mom
     if (wrong) return wrong;
     snprintf(end, sizeof end, "open %s", rest + strlen("cut "));
     insert_line(host->changes, moment + length, end);
-    const char *begun = followed(host->cuts), *behind = behind_cut(host->cuts, end);
+    const char *begun = followed_line(host->cuts), *behind = line_behind_cut(host->cuts, end);
     snprintf(answer->both, sizeof answer->both, "%s\n%s", begun ? begun : "", behind ? behind : "");
     answer->line = answer->both;
     return NULL;
@@ -56,7 +56,7 @@ static const char *obey_outage(struct host *host, const char *rest, uint64_t mom
 static const char *taken_line(struct host *host, const char *text, uint64_t moment, struct answer *answer) {
     if (strncmp(text, "line ", strlen("line ")) == 0) {
         const char *wrong = obey_now(host, text + strlen("line "), moment);
-        answer->line = wrong ? NULL : followed(host->cuts);
+        answer->line = wrong ? NULL : followed_line(host->cuts);
         return wrong;
     }
     if (strncmp(text, "at ", strlen("at ")) == 0) return obey_later(host, text + strlen("at "), moment, answer);

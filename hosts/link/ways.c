@@ -87,8 +87,8 @@ static bool give(struct host *host, int way, const struct arrival *arrival, uint
     make_changes(host, moment);
     if (!look_at(host, way, arrival, &payload, &packet, &headers)) return false;
     enum extent extent = extent_of_cut(host->cuts, way, &packet);
-    bool is_lost = extent == OF_ITS_PORT;
-    if (extent != OF_NONE) classify_plainly(way, &packet);
+    bool is_lost = extent == CUTS_PORT;
+    if (extent != CUTS_NOTHING) classify_plainly(way, &packet);
     else classify(&host->rules, way, &headers, &packet);
     enter(host, way, arrival, &payload, &packet, is_lost);
     if (is_copied(host->passes, way)) enter(host, way, arrival, &payload, &packet, is_lost);
