@@ -21,6 +21,7 @@
 
 #include "control.h"
 #include "host.h"
+#include "leaving.h"
 #include "ways.h"
 
 #define USAGE "hinge-link tun END END [END END ..] PAGE < PLAN, or hinge-link udp FRONT ADDRESS PORT PAGE < PLAN"
@@ -49,12 +50,12 @@ static void turn(struct host *host, const struct wait *wait, uint64_t due) {
     if (host->carrier.look_after) host->carrier.look_after(host->carrier.state, moment);
     make_changes(host, moment);
     for (int i = 0; i < wait->count; i++) {
-        come(host, wait->ready[i]);
+        receive_packets(host, wait->ready[i]);
         if (i + 1 == wait->count || due > host->clock.last) continue;
-        leave(host);
+        send_due_packets(host);
         due = wake(host->links);
     }
-    if (due <= host->clock.last) leave(host);
+    if (due <= host->clock.last) send_due_packets(host);
     remark_lateness(host, moment, false);
     host->page->moment = moment;
 }
@@ -64,7 +65,7 @@ static bool run(struct host *host, struct waits *waits) {
     while (true) {
         uint64_t due = wake(host->links), changes = next_change(host->changes);
         if (due == DN_NEVER && transcript_is_long(host->transcript)) {
-            let_go_of_discarded(host->held);
+            discard_held(host->held);
             begin_next_part(host->links);
         }
         struct wait wait = wait_until(waits, changes < due ? changes : due);
@@ -116,7 +117,7 @@ int main(int count, char **words) {
     host.page->state = RUNNING;
     bool is_whole = run(&host, waits);
     remark_lateness(&host, now(&host.clock), true);
-    count_the_rest(&host);
+    count_remaining(&host);
     if (host.carrier.end) host.carrier.end(host.carrier.state);
     bool is_kept = close_transcript(host.transcript);
     if (!is_whole) fail("an interface", "is gone");

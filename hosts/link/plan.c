@@ -238,7 +238,7 @@ static bool read_control(struct host *host, const char *rest) { return take_int(
 
 /* contents: each packet is told by its content, as path audits need it. */
 static bool read_contents(struct host *host, const char *rest) {
-    host->contents_are_told = true;
+    host->remarks_contents = true;
     return *rest == 0;
 }
 
@@ -261,7 +261,7 @@ static bool read_one(struct host *host, const char *line) {
 void begin_main(struct host *host, uint64_t moment) {
     struct plan *plan = &host->plan;
     plan->base = moment ? moment : 1; /* 0 is the links' beginning */
-    if (host->contents_are_told) remark(host->transcript, "#,main,%" PRIu64 "\n", plan->base);
+    if (host->remarks_contents) remark(host->transcript, "#,main,%" PRIu64 "\n", plan->base);
     for (size_t i = 0; i < plan->count; i++) {
         if (!read_one(host, plan->behind_main[i])) refuse(plan->behind_main[i], "no line of a plan");
         free(plan->behind_main[i]);
