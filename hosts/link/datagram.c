@@ -31,27 +31,27 @@ static void write_ipv6(unsigned char *bytes, size_t data, const struct sockaddr_
 }
 
 void write_headers(unsigned char *bytes, size_t data, const union end *from, const union end *to) {
-    bool four = from->any.sa_family == AF_INET;
-    unsigned char *udp = bytes + (four ? IPV4_HEADER : IPV6_HEADER);
-    if (four) write_ipv4(bytes, data, &from->four, &to->four);
+    bool is_ipv4 = from->any.sa_family == AF_INET;
+    unsigned char *udp = bytes + (is_ipv4 ? IPV4_HEADER : IPV6_HEADER);
+    if (is_ipv4) write_ipv4(bytes, data, &from->four, &to->four);
     else write_ipv6(bytes, data, &from->six, &to->six);
-    put_two(udp, ntohs(four ? from->four.sin_port : from->six.sin6_port));
-    put_two(udp + 2, ntohs(four ? to->four.sin_port : to->six.sin6_port));
+    put_two(udp, ntohs(is_ipv4 ? from->four.sin_port : from->six.sin6_port));
+    put_two(udp + 2, ntohs(is_ipv4 ? to->four.sin_port : to->six.sin6_port));
     put_two(udp + 4, UDP_HEADER + data);
     put_two(udp + 6, 0);
 }
 
 union end client_end(int way, const unsigned char *bytes) {
-    union end found;
-    memset(&found, 0, sizeof found);
+    union end client;
+    memset(&client, 0, sizeof client);
     if (bytes[0] >> 4 == 4) {
-        found.four.sin_family = AF_INET;
-        memcpy(&found.four.sin_addr, bytes + (way ? 16 : 12), 4);
-        memcpy(&found.four.sin_port, bytes + IPV4_HEADER + (way ? 2 : 0), 2);
+        client.four.sin_family = AF_INET;
+        memcpy(&client.four.sin_addr, bytes + (way ? 16 : 12), 4);
+        memcpy(&client.four.sin_port, bytes + IPV4_HEADER + (way ? 2 : 0), 2);
     } else {
-        found.six.sin6_family = AF_INET6;
-        memcpy(&found.six.sin6_addr, bytes + (way ? 24 : 8), 16);
-        memcpy(&found.six.sin6_port, bytes + IPV6_HEADER + (way ? 2 : 0), 2);
+        client.six.sin6_family = AF_INET6;
+        memcpy(&client.six.sin6_addr, bytes + (way ? 24 : 8), 16);
+        memcpy(&client.six.sin6_port, bytes + IPV6_HEADER + (way ? 2 : 0), 2);
     }
-    return found;
+    return client;
 }
