@@ -17,9 +17,9 @@ struct leaving {
     struct packet *last_frame;           /* the last of these */
 };
 
-/* Returns the pipe of a packet's second pass, or 0 if the packet has none left. A pipe is drawn even if a fault names another one, so that the fault
+/* Chooses the pipe of a packet's second pass, or 0 if the packet has none left. A pipe is drawn even if a fault names another one, so that the fault
    changes nothing for other packets. */
-static int pipe_of_second_pass(struct host *host, const struct packet *packet) {
+static int choose_second_pipe(struct host *host, const struct packet *packet) {
     if (packet->again) return 0;
     int pipe = draw_second_pipe(host->passes, packet->way);
     return pipe && packet->late ? packet->late : pipe;
@@ -147,7 +147,7 @@ static void leave_pipe(struct host *host, struct leaving *leaving, struct packet
         release_packet(host->held, packet);
         return;
     }
-    int pipe = pipe_of_second_pass(host, packet);
+    int pipe = choose_second_pipe(host, packet);
     if (pipe) {
         submit_again(host, packet, pipe, due);
         return;
