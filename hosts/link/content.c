@@ -6,6 +6,7 @@
 
 enum { IPV4_HEADER = 20, IPV6_HEADER = 40, TCP_CHECKSUM = 16, UDP_CHECKSUM = 6, NEITHER = -1 };
 
+/* Returns a sum that depends on the sum so far and on a word. */
 static uint64_t mixed(uint64_t sum, uint64_t word) {
     __extension__ typedef unsigned __int128 wide;
     wide product = (wide)(sum ^ word) * 0x9e3779b97f4a7c15;
@@ -24,25 +25,37 @@ static uint64_t mixed_bytes(uint64_t sum, const unsigned char *bytes, size_t len
     return mixed(sum, word ^ (uint64_t)len << 56);
 }
 
-/* Where the checksum is behind the header, or NEITHER. */
-static int checksum_of(int protocol) { return protocol == IPPROTO_TCP ? TCP_CHECKSUM : protocol == IPPROTO_UDP ? UDP_CHECKSUM : NEITHER; }
+/* Returns the place of a protocol's checksum behind the IP header, or NEITHER. */
+static int checksum_of(int protocol) {
+    if (protocol == IPPROTO_TCP) return TCP_CHECKSUM;
+    return protocol == IPPROTO_UDP ? UDP_CHECKSUM : NEITHER;
+}
+
+/* Clears the fields of an IP header that hosts and cards change. */
+static void clear_changing(unsigned char *header, bool is_ipv4) {
+    if (is_ipv4) {
+        header[1] = 0;  /* class */
+        header[8] = 0;  /* time to live */
+        header[10] = 0; /* checksum */
+        header[11] = 0;
+    } else {
+        header[0] &= 0xf0; /* class and flow label */
+        header[1] &= 0x0f;
+        header[7] = 0; /* hop limit */
+    }
+}
 
 bool is_last_hop(const unsigned char *bytes) { return bytes[bytes[0] >> 4 == 4 ? 8 : 7] <= 1; }
 
 uint64_t content_of(const unsigned char *bytes, size_t len) {
     unsigned char header[IPV6_HEADER] = {0};
-    bool is_four = bytes[0] >> 4 == 4;
-    size_t fixed = is_four ? IPV4_HEADER : IPV6_HEADER;
+    bool is_ipv4 = bytes[0] >> 4 == 4;
+    size_t fixed = is_ipv4 ? IPV4_HEADER : IPV6_HEADER;
     memcpy(header, bytes, fixed);
-    if (is_four) {
-        header[1] = header[8] = header[10] = header[11] = 0;
-    } else {
-        header[0] &= 0xf0;
-        header[1] &= 0x0f;
-        header[7] = 0;
-    }
+    clear_changing(header, is_ipv4);
     uint64_t sum = mixed_bytes(1, header, fixed);
-    int checksum = is_four && header[0] != 0x45 ? NEITHER : checksum_of(is_four ? header[9] : header[6]);
+    int checksum = checksum_of(is_ipv4 ? header[9] : header[6]);
+    if (is_ipv4 && header[0] != 0x45) checksum = NEITHER; /* behind options */
     if (checksum == NEITHER || len < fixed + (size_t)checksum + 2) return mixed_bytes(sum, bytes + fixed, len - fixed);
     sum = mixed_bytes(sum, bytes + fixed, (size_t)checksum);
     return mixed_bytes(sum, bytes + fixed + checksum + 2, len - fixed - (size_t)checksum - 2);

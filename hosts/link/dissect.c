@@ -7,8 +7,10 @@
 enum { IPV4_HEADER = 20, IPV6_HEADER = 40, FRAGMENT = 44, FRAGMENT_HEADER = 8, SHORTEST_EXTENSION = 8 };
 enum { ICMP_HEADER = 8, UNREACHABLE = 3, NO_NETWORK = 0, TOO_LONG = 4, UNREACHABLE_SIX = 1, NO_ROUTE_SIX = 0 }; /* RFC 792, RFC 4443 */
 
+/* Returns the number in eight bytes. */
 static uint64_t eight(const unsigned char *at) { return (uint64_t)four(at) << 32 | four(at + 4); }
 
+/* Returns an IPv4 address as ::ffff:a.b.c.d. */
 static struct address mapped(uint32_t address) { return (struct address){0, UINT64_C(0xffff) << 32 | address}; }
 
 static void read_ports(const unsigned char *bytes, size_t len, size_t header, struct dn_packet *packet) {
@@ -22,8 +24,8 @@ static void dissect_ipv4(const unsigned char *bytes, size_t len, struct dn_packe
     packet->dst = four(bytes + 16);
     packet->proto = bytes[9];
     *headers = (struct headers){mapped(packet->src), mapped(packet->dst), bytes[1] >> 2};
-    bool first = (two(bytes + 6) & 0x1fff) == 0;
-    if (first) read_ports(bytes, len, (size_t)(bytes[0] & 15) * 4, packet);
+    bool is_first_fragment = (two(bytes + 6) & 0x1fff) == 0;
+    if (is_first_fragment) read_ports(bytes, len, (size_t)(bytes[0] & 15) * 4, packet);
 }
 
 static bool is_extension(uint8_t kind) { return kind == IPPROTO_HOPOPTS || kind == IPPROTO_ROUTING || kind == FRAGMENT || kind == IPPROTO_DSTOPTS; }
@@ -31,7 +33,7 @@ static bool is_extension(uint8_t kind) { return kind == IPPROTO_HOPOPTS || kind 
 static void dissect_ipv6(struct strangers *strangers, const unsigned char *bytes, size_t len, struct dn_packet *packet, struct headers *headers) {
     uint8_t kind = bytes[6];
     size_t header = IPV6_HEADER;
-    bool first = true;
+    bool is_first_fragment = true;
     packet->src = stand_in(strangers, bytes + 8);
     packet->dst = stand_in(strangers, bytes + 24);
     headers->src = (struct address){eight(bytes + 8), eight(bytes + 16)};
@@ -39,12 +41,12 @@ static void dissect_ipv6(struct strangers *strangers, const unsigned char *bytes
     headers->dscp = (int)(two(bytes) >> 6 & 63);
     while (len >= header + SHORTEST_EXTENSION && is_extension(kind)) {
         const unsigned char *extension = bytes + header;
-        if (kind == FRAGMENT && (two(extension + 2) & 0xfff8)) first = false;
+        if (kind == FRAGMENT && (two(extension + 2) & 0xfff8)) is_first_fragment = false;
         header += kind == FRAGMENT ? FRAGMENT_HEADER : (extension[1] + 1u) * 8;
         kind = extension[0];
     }
     packet->proto = kind;
-    if (first) read_ports(bytes, len, header, packet);
+    if (is_first_fragment) read_ports(bytes, len, header, packet);
 }
 
 bool dissect(struct strangers *strangers, const unsigned char *bytes, size_t len, struct dn_packet *packet, struct headers *headers) {
@@ -54,12 +56,22 @@ bool dissect(struct strangers *strangers, const unsigned char *bytes, size_t len
     return true;
 }
 
+static bool is_icmp(const unsigned char *bytes) {
+    if (bytes[0] >> 4 == 6) return bytes[6] == IPPROTO_ICMPV6;
+    return bytes[9] == IPPROTO_ICMP;
+}
+
+/* Whether an ICMP message of this type and code reports a rejection that the kernel doesn't count. */
+static bool is_rejection(bool is_ipv6, int type, int code) {
+    if (is_ipv6) return type == UNREACHABLE_SIX && code != NO_ROUTE_SIX;
+    return type == UNREACHABLE && code != NO_NETWORK && code != TOO_LONG;
+}
+
 const unsigned char *rejected(const unsigned char *bytes, size_t len, size_t *quoted) {
-    bool is_six = bytes[0] >> 4 == 6;
-    size_t header = is_six ? IPV6_HEADER : (size_t)(bytes[0] & 15) * 4;
-    if (len < header + ICMP_HEADER || bytes[is_six ? 6 : 9] != (is_six ? IPPROTO_ICMPV6 : IPPROTO_ICMP)) return NULL;
-    int type = bytes[header], code = bytes[header + 1];
-    if (is_six ? type != UNREACHABLE_SIX || code == NO_ROUTE_SIX : type != UNREACHABLE || code == NO_NETWORK || code == TOO_LONG) return NULL;
+    bool is_ipv6 = bytes[0] >> 4 == 6;
+    size_t header = is_ipv6 ? IPV6_HEADER : (size_t)(bytes[0] & 15) * 4;
+    if (len < header + ICMP_HEADER || !is_icmp(bytes)) return NULL;
+    if (!is_rejection(is_ipv6, bytes[header], bytes[header + 1])) return NULL;
     *quoted = len - header - ICMP_HEADER;
     return bytes + header + ICMP_HEADER;
 }

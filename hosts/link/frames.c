@@ -5,7 +5,7 @@
 enum { TYPE = 2, TAG = 4 }; /* bytes */
 enum { OF_IPV4 = 0x0800, OF_IPV6 = 0x86dd, OF_TAG = 0x8100, OF_OUTER_TAG = 0x88a8 };
 
-/* Where the type is, behind the tags that there are. */
+/* Returns the place of the type, behind all tags. */
 static size_t place_of_type(const unsigned char *frame, size_t len) {
     size_t at = SHORTEST_FRAME - TYPE;
     while (at + TAG + TYPE <= len && (two(frame + at) == OF_TAG || two(frame + at) == OF_OUTER_TAG)) at += TAG;
@@ -19,6 +19,7 @@ static uint64_t eui64(const unsigned char mac[MAC]) {
     return number;
 }
 
+/* Returns the IPv6 address of an interface with this address. */
 static struct address address_of(const unsigned char mac[MAC]) { return (struct address){UINT64_C(0xfe80) << 48, eui64(mac)}; }
 
 static uint32_t stand_in_of(struct strangers *strangers, struct address address) {

@@ -11,11 +11,12 @@ struct plain {
 
 static ssize_t receive(void *state, int way, unsigned char **packet) {
     struct plain *plain = state;
-    ssize_t len = read(plain->ends[way], *packet = plain->bytes, LONGEST);
+    ssize_t len = read(plain->ends[way], plain->bytes, LONGEST);
+    *packet = plain->bytes;
     return len > 0 ? len : -1;
 }
 
-/* Packets aren't joined: there is one. */
+/* Sends a packet. This carrier doesn't join packets, so there is one. */
 static bool transmit(void *state, int way, const struct bytes *packets, int count) {
     const struct plain *plain = state;
     return count == 1 && write(plain->ends[back(way)], packets->at, packets->len) >= 0;
