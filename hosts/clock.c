@@ -1,10 +1,10 @@
 /* hinge-clock.so: time, random numbers and counted calls for C code, while hingetulip.aio simulates time in a thread.
  *
- * hingetulip.aio loads this library. `hinge_border` then replaces functions of the C library by the functions below in each library of the process: it
- * rewrites their tables of relocations for good, and a look-up by name, such as that of ctypes, finds the functions below, too. Between runs and in other
- * threads they do what the C library's functions do.
- *  - In the thread of a run, random numbers come from the run's seed, and OpenSSL gets the simulated clock. If this library is preloaded, as `hinge kernel
- *    --clock` says, all C code gets this clock.
+ * hingetulip.aio loads this library. `hinge_border` then replaces functions of the C library by the functions below in each library of the
+ * process: it rewrites their tables of relocations for good, and a look-up by name, such as that of ctypes, finds the functions below, too.
+ * Between runs and in other threads they do what the C library's functions do.
+ *  - In the thread of a run, random numbers come from the run's seed, and OpenSSL gets the simulated clock. If this library is preloaded,
+ *    as `hinge kernel --clock` says, all C code gets this clock.
  *  - During a run, calls that reach the real network, and waits of the run's thread, are counted by the library that makes them.
  */
 #define _GNU_SOURCE
@@ -151,8 +151,8 @@ static bool is_real(int socket) {
     return has_family && family != AF_UNIX;
 }
 
-/* Defines `own_name`, which calls the C library's function with the same arguments: `declared` has their types, and `given` their names. If the condition
-   is true during a run, the call is counted. */
+/* Defines `own_name`, which calls the C library's function with the same arguments: `declared` has their types, and `given` their names. If
+   the condition is true during a run, the call is counted. */
 #define CALL(name, is_counted, result, declared, given)                              \
     static result own_##name declared {                                              \
         if (counting && (is_counted)) count(OF_##name, __builtin_return_address(0)); \
@@ -216,8 +216,8 @@ static void *own_dlsym(void *restrict library, const char *restrict name) {
 /* Gives the functions above to all libraries that are loaded now. */
 void hinge_border(void) { rewrite_tables(OF_ALL, OF_OPENSSL); }
 
-/* Draws OpenSSL's random numbers during a run, from the seed of hinge_seed(). OpenSSL's threads need no lock of Python for this, whose holder may wait for
-   these threads. */
+/* Draws OpenSSL's random numbers during a run, from the seed of hinge_seed(). OpenSSL's threads need no lock of Python for this, whose
+   holder may wait for these threads. */
 int hinge_random(unsigned char *to, int count) {
     draw(&drawn_by_openssl, to, (size_t)count);
     return 1;
@@ -225,8 +225,8 @@ int hinge_random(unsigned char *to, int count) {
 
 void hinge_seed(uint64_t seed) { drawn_by_openssl = seed; }
 
-/* Begins a run in this thread, or ends it if `place` is NULL. `place` has the ns since the run's beginning, and `epoch` is this beginning in ns since 1970.
-   The seed is for the run's random numbers. */
+/* Begins a run in this thread, or ends it if `place` is NULL. `place` has the ns since the run's beginning, and `epoch` is this beginning
+   in ns since 1970. The seed is for the run's random numbers. */
 void hinge_run(const int64_t *place, int64_t epoch, uint64_t seed) {
     moment = place;
     began = epoch;
@@ -234,8 +234,8 @@ void hinge_run(const int64_t *place, int64_t epoch, uint64_t seed) {
     counting = place != NULL;
 }
 
-/* Returns how often a library has called a function since the last question, with the names of both: at `place`, of all pairs. Returns ~0 behind the last
-   pair, from the first place without a library on. */
+/* Returns how often a library has called a function since the last question, with the names of both: at `place`, of all pairs. Returns ~0
+   behind the last pair, from the first place without a library on. */
 unsigned hinge_called(size_t place, const char **library, const char **function) {
     static const char *const names[] = {WATCHED(NAME)};
     if (place >= (size_t)MOST * COUNT) return ~0U;

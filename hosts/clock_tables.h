@@ -10,6 +10,6 @@ struct function {
 /* Returns the function that replaces a function of a list, or NULL. */
 __attribute__((visibility("hidden"))) void *own_of(const struct function *functions, const char *name);
 
-/* Rewrites the tables of all libraries that are loaded now, except this one and the C library: each gets the functions `of_all`, and the libraries of
-   OpenSSL also the functions `of_openssl`. */
+/* Rewrites the tables of all libraries that are loaded now, except this one and the C library: each gets the functions `of_all`, and the
+   libraries of OpenSSL also the functions `of_openssl`. */
 __attribute__((visibility("hidden"))) void rewrite_tables(const struct function *of_all, const struct function *of_openssl);

@@ -1,6 +1,6 @@
-/* A carrier brings packets to the links and sends them on: by interfaces (tun, or tap at the links of a switch), or by UDP sockets. A link has two ends
-   and two ways, one for each direction: a packet from end W passes on way W and leaves at the other end. Way 0 of the first link leads from the client
-   to the server, and way 1 back. The second link has ways 2 and 3, and so on. */
+/* A carrier brings packets to the links and sends them on: by interfaces (tun, or tap at the links of a switch), or by UDP sockets. A link
+   has two ends and two ways, one for each direction: a packet from end W passes on way W and leaves at the other end. Way 0 of the first
+   link leads from the client to the server, and way 1 back. The second link has ways 2 and 3, and so on. */
 #pragma once
 #include <stdbool.h>
 #include <stddef.h>
@@ -24,8 +24,8 @@ struct carrier {
     size_t prefix;     /* bytes before each packet that the carrier needs itself */
     void *state;       /* an argument of its functions, for the carrier alone */
 
-    /* Receives an IP packet or a frame of a way, which the next call overwrites, and returns its length. The length is 0 for a packet that the carrier
-       turned away, and -1 if no packet has come. */
+    /* Receives an IP packet or a frame of a way, which the next call overwrites, and returns its length. The length is 0 for a packet that
+       the carrier turned away, and -1 if no packet has come. */
     ssize_t (*receive)(void *state, int way, unsigned char **packet);
 
     /* Sends packets of a way in one write, and may change their bytes. Returns false if the system refuses the write. */
@@ -58,6 +58,6 @@ struct carrier plain_carrier(int count, const int *descriptors);
 /* Returns a carrier for tun interfaces, one for each end, which leave checksums and the cutting of TCP to a card. */
 struct carrier tun_carrier(int count, const int *descriptors);
 
-/* Returns a carrier for the datagrams of a bound socket and of a server. Before each datagram are the headers that it would have between the client and the
-   server. The server's address has the socket's family. */
+/* Returns a carrier for the datagrams of a bound socket and of a server. Before each datagram are the headers that it would have between
+   the client and the server. The server's address has the socket's family. */
 struct carrier udp_carrier(int front, const char *server, const char *port, struct page *page, const struct clock *clock);

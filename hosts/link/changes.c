@@ -59,8 +59,9 @@ uint64_t next_change(const struct changes *changes) {
     return changes->list[changes->done].moment;
 }
 
-/* Begins an outage: at the pipe's rate, the transmission of the longest packet lasts as long as the outage. If no packet waits for the pipe, a packet of
-   this length that nobody sent is submitted. Otherwise the outage would begin with the next packet, and end early behind a small one. */
+/* Begins an outage: at the pipe's rate, the transmission of the longest packet lasts as long as the outage. If no packet waits for the
+   pipe, a packet of this length that nobody sent is submitted. Otherwise the outage would begin with the next packet, and end early behind
+   a small one. */
 static void begin_outage(struct host *host, const struct change *change) {
     struct dn_packet packet = {.moment = change->moment, .kind = DN_PIPE, .number = (uint16_t)change->pipe, .length = change->length};
     struct dn_fate fate;

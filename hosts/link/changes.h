@@ -15,6 +15,6 @@ void insert_outage(struct changes *changes, uint64_t moment, int pipe, uint16_t 
 /* Returns the moment of the next change, or DN_NEVER. */
 uint64_t next_change(const struct changes *changes);
 
-/* Makes the changes that are due at a moment. Call this before each call of the links with a moment: time passes while packets are received and sent, and
-   behind a later moment a change would come too late. */
+/* Makes the changes that are due at a moment. Call this before each call of the links with a moment: time passes while packets are received
+   and sent, and behind a later moment a change would come too late. */
 void make_changes(struct host *host, uint64_t moment);

@@ -14,8 +14,8 @@ struct client {
     struct client *newer;     /* the client that was active after it */
 };
 
-/* Returns the clients of a server, of which there are none yet, and at most as many as the system allows sockets. `back` counts the datagrams that the
-   system drops on the way back from the server. */
+/* Returns the clients of a server, of which there are none yet, and at most as many as the system allows sockets. `back` counts the
+   datagrams that the system drops on the way back from the server. */
 struct clients *new_clients(const union end *server, struct way *back);
 
 /* Returns a descriptor that can be read when datagrams of the server have come for any client. */

@@ -16,8 +16,9 @@ struct answer {
     char text[2 * LONGEST];
 };
 
-/* Follows a line at once, and returns NULL, or why it is refused. The links don't get a line with a wrong word, since a transcript's lines have to be
-   readable. They decide themselves about a refusal, which is one word like `no-such-pipe`: the trial of all the plan's lines knows other pipes. */
+/* Follows a line at once, and returns NULL, or why it is refused. The links don't get a line with a wrong word, since a transcript's lines
+   have to be readable. They decide themselves about a refusal, which is one word like `no-such-pipe`: the trial of all the plan's lines
+   knows other pipes. */
 static const char *obey_now(struct host *host, const char *line, uint64_t moment) {
     const char *wrong = wrong_with_change(host, line);
     if (wrong && strchr(wrong, ' ')) return wrong;

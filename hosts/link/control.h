@@ -1,5 +1,5 @@
-/* Messages while packets pass, from a socket that keeps them whole. The answer has the moment, behind it the reason of a refusal, and on a second line
-   the configuration line that the message's pipe then has:
+/* Messages while packets pass, from a socket that keeps them whole. The answer has the moment, behind it the reason of a refusal, and on a
+   second line the configuration line that the message's pipe then has:
 
      line LINE      follows a line of cuts.h or of the configuration at once
      at NS LINE     follows a line NS later

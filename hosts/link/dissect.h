@@ -21,6 +21,7 @@ struct headers {
 /* Reads an IP packet's addresses, protocol and ports. A later fragment has no ports. Returns false if the bytes are no IP packet. */
 bool dissect(struct strangers *strangers, const unsigned char *bytes, size_t len, struct dn_packet *packet, struct headers *headers);
 
-/* Returns the packet that an ICMP message quotes, with the number of its quoted bytes, if a system reports by the message that it has rejected the packet.
-   Returns NULL for other packets, and for reports that there is no route or that the packet is too long: the kernel counts these drops. */
+/* Returns the packet that an ICMP message quotes, with the number of its quoted bytes, if a system reports by the message that it has
+   rejected the packet. Returns NULL for other packets, and for reports that there is no route or that the packet is too long: the kernel
+   counts these drops. */
 const unsigned char *rejected(const unsigned char *bytes, size_t len, size_t *quoted);

@@ -25,8 +25,8 @@ static int protocol_of(const unsigned char *ip) {
 
 static bool is_udp(const unsigned char *ip) { return protocol_of(ip) == IPPROTO_UDP; }
 
-/* Returns the bytes of the header of UDP or TCP, `len` bytes long with its data, or 0 if the packet can't be joined. TCP may only have the flags of data
-   that goes on. */
+/* Returns the bytes of the header of UDP or TCP, `len` bytes long with its data, or 0 if the packet can't be joined. TCP may only have the
+   flags of data that goes on. */
 static size_t inner_header(const unsigned char *inner, size_t len, int protocol) {
     if (protocol == IPPROTO_UDP) return len > UDP_HEADER && two(inner + UDP_LENGTH) == len ? UDP_HEADER : 0;
     if (protocol != IPPROTO_TCP || len < TCP_SHORTEST || (inner[TCP_FLAGS] & ~PUSH) != ACKNOWLEDGES) return 0;

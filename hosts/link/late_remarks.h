@@ -1,5 +1,6 @@
-/* Lateness: by how much packets left a way (one direction of a link) late, and how long they lay unread. The page counts packets and time, and the
-   transcript gets a remark with the greatest lateness of each second in which packets passed, so that a stall of this program shows in it. */
+/* Lateness: by how much packets left a way (one direction of a link) late, and how long they lay unread. The page counts packets and time,
+   and the transcript gets a remark with the greatest lateness of each second in which packets passed, so that a stall of this program shows
+   in it. */
 #pragma once
 #include <stdbool.h>
 #include <stdint.h>

@@ -17,15 +17,16 @@ struct leaving {
     struct packet *last_frame;           /* the last of these */
 };
 
-/* Chooses the pipe of a packet's second pass, or 0 if the packet has none left. A pipe is drawn even if a fault names another one, so that the fault
-   changes nothing for other packets. */
+/* Chooses the pipe of a packet's second pass, or 0 if the packet has none left. A pipe is drawn even if a fault names another one, so that
+   the fault changes nothing for other packets. */
 static int choose_second_pipe(struct host *host, const struct packet *packet) {
     if (packet->again) return 0;
     int pipe = draw_second_pipe(host->passes, packet->way);
     return pipe && packet->late ? packet->late : pipe;
 }
 
-/* Submits a packet that has left its first pipe to another one. If a line has deleted this one, the packet is counted as one without a target. */
+/* Submits a packet that has left its first pipe to another one. If a line has deleted this one, the packet is counted as one without a
+   target. */
 static void submit_again(struct host *host, struct packet *packet, int pipe, uint64_t due) {
     struct arrival arrival = {.bytes = packet->bytes + host->carrier.prefix, .size = packet->size};
     struct payload payload;
@@ -71,7 +72,8 @@ static void remark_refused(const struct host *host, const struct packet *packet)
     remark(host->transcript, "#,refused,%" PRIu64 "\n", packet->number);
 }
 
-/* Counts a packet that has left its link. It is late from its due moment to the end of the write that sent it, and by its first pass's delay. */
+/* Counts a packet that has left its link. It is late from its due moment to the end of the write that sent it, and by its first pass's
+   delay. */
 static void note_left(struct host *host, const struct packet *packet, uint64_t due, bool is_sent, uint64_t moment) {
     struct way *counts = &host->page->ways[packet->way];
     if (is_sent) {

@@ -89,8 +89,8 @@ static void note_line(struct links *links, const char *line) {
     if (!held->text) fail("the links", "out of memory");
 }
 
-/* Returns what is wrong with a line by the library's status, or NULL: a text about a wrong word, or a refusal as in transcripts, in one word such as
-   `no-such-pipe`. */
+/* Returns what is wrong with a line by the library's status, or NULL: a text about a wrong word, or a refusal as in transcripts, in one
+   word such as `no-such-pipe`. */
 static const char *wrong_by(struct links *links, uint32_t status, const struct dn_fault *fault) {
     uint64_t length = 0;
     if (status == DN_OK) return NULL;

@@ -31,6 +31,6 @@ uint64_t wake(struct links *links);
 /* Whether a packet waits for a pipe. */
 bool has_waiting(struct links *links, int pipe);
 
-/* Begins another part of the transcript with new links, which get the configuration lines that hold. Call this if no packet is in the links, so
-   that wake() returns DN_NEVER. */
+/* Begins another part of the transcript with new links, which get the configuration lines that hold. Call this if no packet is in the
+   links, so that wake() returns DN_NEVER. */
 void begin_next_part(struct links *links);

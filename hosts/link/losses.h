@@ -1,5 +1,5 @@
-/* The random words (31-bit numbers) of packets, by which a link loses them if the word is below its loss rate. Words come from a seed, or say which packets
-   Gilbert's and Elliott's two states lose, or faults. */
+/* The random words (31-bit numbers) of packets, by which a link loses them if the word is below its loss rate. Words come from a seed, or
+   say which packets Gilbert's and Elliott's two states lose, or faults. */
 #pragma once
 #include <stdint.h>
 
@@ -14,7 +14,8 @@ struct losses *new_losses(int ways);
 /* Sets the seed of a way's words. */
 void set_seed(struct losses *losses, int way, uint64_t seed);
 
-/* Has two states decide a way's losses, with four chances of 2^31: to turn bad, to turn good, to lose a packet in the good state, and in the bad one. */
+/* Has two states decide a way's losses, with four chances of 2^31: to turn bad, to turn good, to lose a packet in the good state, and in
+   the bad one. */
 void set_gilbert(struct losses *losses, int way, const uint32_t chances[4]);
 
 /* Has a way lose only the packets of the fault IS_LOST (passes.h). */

@@ -4,13 +4,14 @@
      hinge-link udp FRONT ADDRESS PORT PAGE < PLAN
      hinge-link END END [END END ..] PAGE < PLAN
 
-   END, FRONT and PAGE are descriptors. Each link has two ENDs, which are interfaces, or -1 at a switch; those of the first link are the client's and the
-   server's. Without `tun` an END may be anything that keeps packets whole, such as the sockets in tests. FRONT is a bound UDP socket, for a server
-   at ADDRESS and PORT. PAGE is the page of counts. PLAN is text that says what to emulate (plan.h).
+   END, FRONT and PAGE are descriptors. Each link has two ENDs, which are interfaces, or -1 at a switch; those of the first link are the
+   client's and the server's. Without `tun` an END may be anything that keeps packets whole, such as the sockets in tests. FRONT is a bound
+   UDP socket, for a server at ADDRESS and PORT. PAGE is the page of counts. PLAN is text that says what to emulate (plan.h).
 
-   A link has two ways, one for each direction. A packet from the first end passes on way 0 and through pipe 1, unless a rule says otherwise, and a packet
-   from the second end on way 1 through pipe 2. The second link has ways 2 and 3 and pipes 3 and 4, and so on. The pipes are of one shaper of
-   libhingetulip. A transcript keeps each call with its reply, which `dummynet audit` judges. SIGTERM ends the program. tools/release/hosts builds it. */
+   A link has two ways, one for each direction. A packet from the first end passes on way 0 and through pipe 1, unless a rule says
+   otherwise, and a packet from the second end on way 1 through pipe 2. The second link has ways 2 and 3 and pipes 3 and 4, and so on. The
+   pipes are of one shaper of libhingetulip. A transcript keeps each call with its reply, which `dummynet audit` judges. SIGTERM ends the
+   program. tools/release/hosts builds it. */
 #define _GNU_SOURCE
 #include <errno.h>
 #include <fcntl.h>
@@ -28,8 +29,8 @@
 
 #define USAGE "hinge-link tun END END [END END ..] PAGE < PLAN, or hinge-link udp FRONT ADDRESS PORT PAGE < PLAN"
 
-/* Blocks SIGTERM and returns a descriptor that can be read once the signal has come. The waits poll it together with the interfaces, since a ppoll that
-   lets signals in doesn't do so while an interface has packets. */
+/* Blocks SIGTERM and returns a descriptor that can be read once the signal has come. The waits poll it together with the interfaces, since
+   a ppoll that lets signals in doesn't do so while an interface has packets. */
 static int signal_descriptor(void) {
     sigset_t signals;
     sigemptyset(&signals);
@@ -43,7 +44,8 @@ static int signal_descriptor(void) {
     return descriptor;
 }
 
-/* Receives and sends what a wait has brought, of which packets are due at `due`. Between two ways, packets leave that have become due meanwhile. */
+/* Receives and sends what a wait has brought, of which packets are due at `due`. Between two ways, packets leave that have become due
+   meanwhile. */
 static void turn(struct host *host, const struct wait *wait, uint64_t due) {
     uint64_t moment = wait->punctual ? host->clock.last : now(&host->clock);
     host->page->turns++;
@@ -86,7 +88,8 @@ static int *read_descriptors(int count, char **words) {
     return descriptors;
 }
 
-/* Opens /dev/null under the numbers of closed standard streams. Another file under such a number would be read as the plan, or get messages. */
+/* Opens /dev/null under the numbers of closed standard streams. Another file under such a number would be read as the plan, or get
+   messages. */
 static void hold_streams(void) {
     int file = 0;
     while (file >= 0 && file <= STDERR_FILENO) file = open("/dev/null", O_WRONLY | O_CLOEXEC);

@@ -127,8 +127,8 @@ static uint64_t after_holds(const struct pipe *pipe, uint64_t moment) {
     return end;
 }
 
-/* Returns the rate at which these bits take `time` ns, or a little longer. The rate always has a limit: without one, the links would begin the next
-   packet at the same moment, before it has its rate. */
+/* Returns the rate at which these bits take `time` ns, or a little longer. The rate always has a limit: without one, the links would begin
+   the next packet at the same moment, before it has its rate. */
 static uint64_t rate_for(uint64_t bits, uint64_t time) {
     uint64_t rate = time ? bits * SECOND / time : MOST_RATE;
     if (rate < 1) return 1;
@@ -235,8 +235,8 @@ static void keep_line(struct pipe *pipe, const char *line) {
     pipe->rate = pipe->bandwidth;
 }
 
-/* Notes a pipe's line, which ended the rate of the first packet that waits. With a trace the packet keeps this rate, whose bytes it has taken;
-   without one it gets a rate by the line's bandwidth. */
+/* Notes a pipe's line, which ended the rate of the first packet that waits. With a trace the packet keeps this rate, whose bytes it has
+   taken; without one it gets a rate by the line's bandwidth. */
 static void reconfigure(struct pacing *pacing, struct pipe *pipe, const char *line) {
     keep_line(pipe, line);
     if (pipe->slots.moments && pipe->count) set_rate(pacing->links, pipe, pipe->first_rate);

@@ -1,5 +1,5 @@
-/* Pipes whose packets leave at the moments of a trace, and pipes with outages. A packet keeps the rate at which its transmission began, so such a
-   pipe's rate is set before each packet, for this packet's length. The pipe is a single queue, without masks. */
+/* Pipes whose packets leave at the moments of a trace, and pipes with outages. A packet keeps the rate at which its transmission began, so
+   such a pipe's rate is set before each packet, for this packet's length. The pipe is a single queue, without masks. */
 #pragma once
 #include <hingetulip.h>
 #include <stdbool.h>

@@ -1,4 +1,5 @@
-/* The page of counts: memory that `hinge run` shares and reads, during the run and after it. hinge/run/page.py repeats the order of its fields. */
+/* The page of counts: memory that `hinge run` shares and reads, during the run and after it. hinge/run/page.py repeats the order of its
+   fields. */
 #pragma once
 #include <stdint.h>
 

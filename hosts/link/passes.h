@@ -1,7 +1,7 @@
-/* Effects that a link of dummynet lacks, made of calls that it has. A duplicate is a second submit of a packet, and jitter is a second pass through one
-   of several pipes that have a delay and nothing else. The audit judges these calls as all others. A fault chooses a packet by its number, counted from
-   1, among the packets of a way (one direction of a link): it is lost, or comes twice, or is late, by the delay of its second pass. A packet that leaves
-   its last pipe may have a flipped bit, which no call reports, but a remark. */
+/* Effects that a link of dummynet lacks, made of calls that it has. A duplicate is a second submit of a packet, and jitter is a second pass
+   through one of several pipes that have a delay and nothing else. The audit judges these calls as all others. A fault chooses a packet by
+   its number, counted from 1, among the packets of a way (one direction of a link): it is lost, or comes twice, or is late, by the delay of
+   its second pass. A packet that leaves its last pipe may have a flipped bit, which no call reports, but a remark. */
 #pragma once
 #include <stdbool.h>
 #include <stddef.h>

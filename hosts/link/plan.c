@@ -53,7 +53,8 @@ static bool read_change(struct host *host, const char *rest) {
 /* Takes the number of a way's pipe from the front of a text. */
 static bool take_pipe(const struct host *host, const char **rest, int *pipe) { return take_int(rest, 1, host->carrier.ways, pipe); }
 
-/* Reads `outage NS PIPE LENGTH`, the beginning of an outage: if no packet waits for the pipe, a packet of this length that nobody sent enters it. */
+/* Reads `outage NS PIPE LENGTH`, the beginning of an outage: if no packet waits for the pipe, a packet of this length that nobody sent
+   enters it. */
 static bool read_outage(struct host *host, const char *rest) {
     uint64_t moment;
     int pipe, length;

@@ -35,8 +35,9 @@ struct rules {
     uint64_t *met; /* the bits of the page for rules that a packet met, or NULL */
 };
 
-/* Reads a rule: `WAY KIND NUMBER PROTO DSCP SRC MASK DST MASK SPORT SPORT DPORT DPORT`. KIND is 0 for a pipe and 1 for a queue, PROTO and DSCP are -1 for
-   any, an address has 32 hex digits, and the ports of a span are its lowest and its highest. False if a word is wrong or missing. */
+/* Reads a rule: `WAY KIND NUMBER PROTO DSCP SRC MASK DST MASK SPORT SPORT DPORT DPORT`. KIND is 0 for a pipe and 1 for a queue, PROTO and
+   DSCP are -1 for any, an address has 32 hex digits, and the ports of a span are its lowest and its highest. False if a word is wrong or
+   missing. */
 bool read_rule(const char *text, struct rule *rule);
 
 void add_rule(struct rules *rules, const struct rule *rule);

@@ -52,7 +52,8 @@ void fit_ip(unsigned char *ip, size_t len, size_t number) {
 
 void fit_checksum(unsigned char *checksum, size_t was, size_t is) { put_two(checksum, folded(two(checksum) + (0xffff - was % 0x10000) + is)); }
 
-/* Adapts the header of TCP with `length` bytes, whose data are `before` bytes behind the first: its sequence number, its flags and its partial sum. */
+/* Adapts the header of TCP with `length` bytes, whose data are `before` bytes behind the first: its sequence number, its flags and its
+   partial sum. */
 static void fit_tcp(unsigned char *tcp, size_t before, bool is_last, size_t whole_length, size_t length) {
     unsigned long sequence = four(tcp + TCP_SEQUENCE) + before;
     put_two(tcp + TCP_SEQUENCE, (unsigned)(sequence >> 16));

@@ -1,5 +1,5 @@
-/* Long TCP packets, which the system leaves to a card to cut, with a note about the cuts. They are cut here, so that each packet has a fate of its own
-   on the link. */
+/* Long TCP packets, which the system leaves to a card to cut, with a note about the cuts. They are cut here, so that each packet has a fate
+   of its own on the link. */
 #pragma once
 #include <linux/virtio_net.h>
 #include <stdbool.h>
@@ -11,8 +11,8 @@ enum {
     LONGEST_HEADERS = 1024                /* the most bytes before the data of a packet that is cut */
 };
 
-/* A packet from the system, and its state while it is cut. The packets that it is cut into lie in its bytes: each has its note and headers in the place
-   of the data before it. */
+/* A packet from the system, and its state while it is cut. The packets that it is cut into lie in its bytes: each has its note and headers
+   in the place of the data before it. */
 struct whole {
     unsigned char bytes[NOTE + LONGEST_WHOLE]; /* the note and the packet */
     unsigned char headers[LONGEST_HEADERS];    /* a copy of the packet's bytes before the data */

@@ -14,5 +14,6 @@ struct slots {
 /* Goes to the first slot that isn't before a moment in ns. Each slot has `bytes`. */
 void seek(struct slots *slots, uint64_t moment, uint64_t bytes);
 
-/* Takes `wanted` bytes, first from the present slot and then from the next ones, which have `bytes` each. Returns the moment in ns of the last byte. */
+/* Takes `wanted` bytes, first from the present slot and then from the next ones, which have `bytes` each. Returns the moment in ns of the
+   last byte. */
 uint64_t take_slots(struct slots *slots, uint64_t wanted, uint64_t bytes);

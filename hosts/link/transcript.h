@@ -1,5 +1,5 @@
-/* The transcript: a file with the calls that the links get and their replies, for `dummynet audit`. Without an open transcript these functions do
-   nothing. */
+/* The transcript: a file with the calls that the links get and their replies, for `dummynet audit`. Without an open transcript these
+   functions do nothing. */
 #pragma once
 #include <hingetulip.h>
 #include <stdbool.h>

@@ -24,8 +24,8 @@ static ssize_t turn_away(struct udp *udp, int way) {
     return 0;
 }
 
-/* Receives a datagram of a client. It is turned away if there can't be another client, or if the packet would be longer than a link's longest, as with
-   some of IPv6. MSG_TRUNC returns the length of the whole datagram. */
+/* Receives a datagram of a client. It is turned away if there can't be another client, or if the packet would be longer than a link's
+   longest, as with some of IPv6. MSG_TRUNC returns the length of the whole datagram. */
 static ssize_t receive_from_client(struct udp *udp) {
     size_t headers = headers_length(udp->server.any.sa_family);
     union end from;

@@ -71,8 +71,8 @@ static void note_was_empty(struct interface *interface, uint64_t moment) {
     if (moment > interface->empty_at) interface->empty_at = moment;
 }
 
-/* Returns the last moment at which the packets that ended a sleep hadn't come. If the sleep lasted beyond its timer, not counting the wait for a
-   processor, the program was paused without a report. */
+/* Returns the last moment at which the packets that ended a sleep hadn't come. If the sleep lasted beyond its timer, not counting the wait
+   for a processor, the program was paused without a report. */
 static uint64_t last_nothing(struct unread *unread, uint64_t moment, const struct wait *wait) {
     uint64_t queued = read_queued(unread);
     uint64_t woken = queued < moment ? moment - queued : 0;

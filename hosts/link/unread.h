@@ -1,5 +1,5 @@
-/* How long a packet can have lain unread. It came behind the last moment at which its interface is known to have been empty. It also came behind the
-   moment at which the packet QUEUE places before it was taken, since the system keeps no more packets for this program. */
+/* How long a packet can have lain unread. It came behind the last moment at which its interface is known to have been empty. It also came
+   behind the moment at which the packet QUEUE places before it was taken, since the system keeps no more packets for this program. */
 #pragma once
 #include <stdbool.h>
 #include <stdint.h>
@@ -24,6 +24,7 @@ void note_empty(struct unread *unread, int way, uint64_t moment);
 /* Notes that packets are being taken from a way's interface, and that some may remain there. */
 void note_unemptied(struct unread *unread, int way);
 
-/* Notes the end of a wait at a moment. The interfaces of its ready ways then had packets, and all others were empty. If the program slept, these packets
-   came when it was put into the queue for a processor, not before. If it was paused meanwhile, they can have come at any moment of the sleep. */
+/* Notes the end of a wait at a moment. The interfaces of its ready ways then had packets, and all others were empty. If the program slept,
+   these packets came when it was put into the queue for a processor, not before. If it was paused meanwhile, they can have come at any
+   moment of the sleep. */
 void note_wait(struct unread *unread, uint64_t moment, const struct wait *wait);

@@ -8,15 +8,16 @@
 #include <sys/timerfd.h>
 #include <unistd.h>
 
-/* The time between two beats, which wake an idle program: a stop of this program is then counted from the last beat, not from the last packet. */
+/* The time between two beats, which wake an idle program: a stop of this program is then counted from the last beat, not from the last
+   packet. */
 enum { BEAT = 100000000 }; /* ns */
 
-/* Since a sleep may end late, the program polls for SPIN before a moment that is FAR away. It thus polls for a tenth of the time at most, as the
-   system would stop a program that runs before all others and never sleeps. */
+/* Since a sleep may end late, the program polls for SPIN before a moment that is FAR away. It thus polls for a tenth of the time at most,
+   as the system would stop a program that runs before all others and never sleeps. */
 enum { SPIN = 50000, FAR = 10 * SPIN }; /* ns */
 
-/* One epoll(7) reports all descriptors: those of ways under the numbers of the ways, and the others under the numbers behind. A descriptor that it
-   doesn't report has nothing to read. */
+/* One epoll(7) reports all descriptors: those of ways under the numbers of the ways, and the others under the numbers behind. A descriptor
+   that it doesn't report has nothing to read. */
 struct waits {
     struct clock *clock;
     bool spins;                 /* whether the program polls for SPIN before a moment */
@@ -103,8 +104,8 @@ static int poll_events(const struct waits *waits, int patience) {
     return count;
 }
 
-/* Sleeps until a report, and returns the number of reports. Since all signals are blocked or ignored, only a stop of this program interrupts the
-   sleep: what there is then can have come during the stop, and what comes later can't. */
+/* Sleeps until a report, and returns the number of reports. Since all signals are blocked or ignored, only a stop of this program
+   interrupts the sleep: what there is then can have come during the stop, and what comes later can't. */
 static int sleep_until_event(const struct waits *waits, struct wait *wait, uint64_t timer_moment) {
     wait->nothing = waits->clock->last;
     wait->timer = next_beat(waits, wait->nothing);

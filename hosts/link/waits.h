@@ -18,10 +18,11 @@ struct wait {
     bool control;     /* whether messages have come from the control descriptor, or its end */
 };
 
-/* Prepares waits for `ways` ways: `polled` has a descriptor for each, or -1. The descriptor `signal` can be read once the signal has come, and
-   `control` (-1 for none) has the messages to this program. If it `spins`, it polls for a short time before a moment instead of sleeping. */
+/* Prepares waits for `ways` ways: `polled` has a descriptor for each, or -1. The descriptor `signal` can be read once the signal has come,
+   and `control` (-1 for none) has the messages to this program. If it `spins`, it polls for a short time before a moment instead of
+   sleeping. */
 struct waits *new_waits(struct clock *clock, const int *polled, int ways, int signal, int control, bool spins);
 
-/* Waits until a moment, until packets or messages have come, or until the signal. Returns at once if the moment isn't behind the last reading of
-   the clock. */
+/* Waits until a moment, until packets or messages have come, or until the signal. Returns at once if the moment isn't behind the last
+   reading of the clock. */
 struct wait wait_until(struct waits *waits, uint64_t moment);

@@ -72,8 +72,8 @@ static void submit_arrival(struct host *host, int way, const struct arrival *arr
     }
 }
 
-/* Submits an arrival, and its double if a fault wants one. The double isn't counted among the way's packets, and no loss rate loses it. The cut of a
-   port (`is_cut`) loses both. */
+/* Submits an arrival, and its double if a fault wants one. The double isn't counted among the way's packets, and no loss rate loses it. The
+   cut of a port (`is_cut`) loses both. */
 static void submit_with_double(struct host *host, int way, const struct arrival *arrival, const struct payload *payload, struct dn_packet *packet,
                                bool is_cut) {
     uint32_t word = next_word(host->losses, host->passes, way);
@@ -116,8 +116,8 @@ void begin_ways(struct host *host) {
         if (carries_frames(host->switches, way) && host->carrier.polled[way] >= 0) drop_waiting(&host->carrier, way);
 }
 
-/* Where time stands, a turn receives one packet: the next wait reports further packets at the same moment. A second read would be a system call for
-   each packet, and mostly find nothing. */
+/* Where time stands, a turn receives one packet: the next wait reports further packets at the same moment. A second read would be a system
+   call for each packet, and mostly find nothing. */
 void receive_packets(struct host *host, int way) {
     const struct carrier *carrier = &host->carrier;
     int most = host->clock.stands ? 1 : AT_ONCE;

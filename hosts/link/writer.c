@@ -24,8 +24,8 @@ struct writer {
     uint64_t entries;       /* the number of entries so far */
 };
 
-/* Makes the lines of a record behind the other lines, and returns the library's status, or DN_ROOM if there is no room for them. The library makes no
-   line for a configuration line without words, since it counts as no call. */
+/* Makes the lines of a record behind the other lines, and returns the library's status, or DN_ROOM if there is no room for them. The
+   library makes no line for a configuration line without words, since it counts as no call. */
 static uint32_t make_lines(struct writer *writer, const struct record *record, uint64_t *length) {
     const void *body = record->body;
     const struct dn_packet *packet = body;
@@ -69,7 +69,8 @@ static size_t size_at(const struct writer *writer, size_t at) {
     return writer->held - at < sizeof *record ? sizeof *record : whole_size(record->size);
 }
 
-/* Adds the lines of all complete records, and returns by how many bytes the lines are shorter than they can be. Then makes room for the next record. */
+/* Adds the lines of all complete records, and returns by how many bytes the lines are shorter than they can be. Then makes room for the
+   next record. */
 static uint64_t take_records(struct writer *writer) {
     size_t at = 0;
     size_t size = size_at(writer, at);

@@ -1,4 +1,5 @@
-/* The process that writes a part of a transcript. It gets records through a pipe and turns them into lines, so that no packet waits for this. */
+/* The process that writes a part of a transcript. It gets records through a pipe and turns them into lines, so that no packet waits for
+   this. */
 #pragma once
 #include <stdatomic.h>
 #include <stdint.h>
