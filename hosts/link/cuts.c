@@ -8,7 +8,7 @@
 
 #define LOSS " plr "
 #define LOSS_OF_ALL LOSS "1"
-#define LEAST_LOSS LOSS "0.0000000005" /* loses no packet but those with WORD_OF_A_LOSS */
+#define LEAST_LOSS LOSS "0.0000000005" /* loses only packets with WORD_OF_A_LOSS */
 
 struct cut {
     uint64_t number;
@@ -31,7 +31,7 @@ struct cuts {
     struct pipe pipes[]; /* by their numbers, which begin at 1 */
 };
 
-/* What a line is: one of those in cuts.h, or else a line for the links. */
+/* The kinds of lines: the forms in cuts.h, and lines for the links. */
 enum line_kind { CUT_LINE, OPEN_LINE, HEAL_LINE, REMARK_LINE, LINKS_LINE };
 
 struct cuts *new_cuts(struct links *links, struct pacing *pacing, struct transcript *transcript, int most) {

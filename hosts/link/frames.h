@@ -18,8 +18,7 @@ struct payload {
 /* Whether an address is of a group or of all. */
 static inline bool is_group(const unsigned char mac[MAC]) { return mac[0] & 1; }
 
-/* Reads a frame's payload, and the fields that the links and the rules look at. A frame without IP has the protocol 0, its type as
-   destination port, and for its addresses those of IPv6 that belong to them (fe80::/64 with an EUI-64). Returns false if the bytes are
-   shorter than a frame. */
+/* Reads a frame's payload, and the fields that the links and the rules look at. A frame without IP has the protocol 0, its type as destination
+   port, and IPv6 addresses made from its own (fe80::/64 with an EUI-64). Returns false if the bytes are shorter than a frame. */
 bool dissect_frame(struct strangers *strangers, const unsigned char *frame, size_t len, struct payload *payload, struct dn_packet *packet,
                    struct headers *headers);

@@ -1,5 +1,5 @@
-/* The random words (31-bit numbers) of packets, by which a link loses them if the word is below its loss rate. Words come from a seed, or
-   say which packets Gilbert's and Elliott's two states lose, or faults. */
+/* The random words (31-bit numbers) of packets: a link loses a packet whose word is below its loss rate. A seed draws the words, or they are
+   chosen so that Gilbert's and Elliott's two states, or faults, decide which packets are lost. */
 #pragma once
 #include <stdint.h>
 

@@ -3,7 +3,7 @@
 #include "basics.h"
 #include "losses.h"
 
-/* The streams of random words, beside those of losses, which have the numbers of ways. */
+/* The streams of random words. The streams of losses have the numbers of ways, which are smaller. */
 enum { OF_JITTER = 1 << 20, OF_COPIES = 2 << 20, OF_CORRUPTION = 3 << 20, OF_BITS = 4 << 20 };
 
 /* A fault of one packet. */

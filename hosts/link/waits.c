@@ -123,7 +123,7 @@ static void choose_early(struct waits *waits, uint64_t moment) {
     waits->awaited = moment;
 }
 
-/* Whether a sleep where time stands ended by the timer alone, so that the timer's moment is now. */
+/* Whether the timer alone ended a sleep while time stands, so that the timer's moment is now. */
 static bool is_punctual(const struct waits *waits, const struct wait *wait, int count) {
     return waits->clock->stands && wait->slept && count == 1 && (int)waits->events->data.u32 == waits->ways + OF_TIMER;
 }

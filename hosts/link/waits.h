@@ -8,8 +8,8 @@
 /* How a wait ended, and what came. */
 struct wait {
     enum { PACKETS_OR_MOMENT, SIGNAL, INTERFACE_GONE } end;
-    bool slept;       /* whether nothing had come at the beginning, so that the program slept; where time stands, whether it may have slept */
-    bool punctual;    /* whether the moment alone has come, to which the clock is set without a reading */
+    bool slept;       /* whether nothing had come at first, so that the program slept; if time stands (basics.h), whether it may have slept */
+    bool punctual;    /* whether the moment alone has come, to which the clock has been set without a reading */
     bool paused;      /* whether this program was stopped during its sleep, as by SIGSTOP, a freezer or a debugger */
     uint64_t nothing; /* the last moment before the sleep, at which nothing had come */
     uint64_t timer;   /* the moment of the first timer behind `nothing`, which would have ended the sleep */

@@ -63,7 +63,7 @@ static uint64_t add_lines(struct writer *writer, const struct record *record) {
     return length;
 }
 
-/* Returns the bytes of the record at a place, or those of its head if the whole head hasn't come. */
+/* Returns the bytes of the record at a place, or of the head alone if the whole head hasn't come yet. */
 static size_t size_at(const struct writer *writer, size_t at) {
     const struct record *record = (const void *)(writer->records + at);
     return writer->held - at < sizeof *record ? sizeof *record : whole_size(record->size);
