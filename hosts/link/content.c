@@ -4,7 +4,9 @@
 #include <stdbool.h>
 #include <string.h>
 
-enum { IPV4_HEADER = 20, IPV6_HEADER = 40, TCP_CHECKSUM = 16, UDP_CHECKSUM = 6, NEITHER = -1 };
+enum { IPV4_CLASS = 1, IPV4_LIFE = 8, IPV4_PROTOCOL = 9, IPV4_CHECKSUM = 10, IPV4_HEADER = 20 };
+enum { IPV6_NEXT = 6, IPV6_LIFE = 7, IPV6_HEADER = 40 };
+enum { TCP_CHECKSUM = 16, UDP_CHECKSUM = 6, NEITHER = -1 };
 
 /* Returns a sum that depends on the sum so far and on a word. */
 static uint64_t mixed(uint64_t sum, uint64_t word) {
@@ -34,18 +36,21 @@ static int checksum_of(int protocol) {
 /* Clears the fields of an IP header that hosts and cards change. */
 static void clear_changing(unsigned char *header, bool is_ipv4) {
     if (is_ipv4) {
-        header[1] = 0;  /* class */
-        header[8] = 0;  /* time to live */
-        header[10] = 0; /* checksum */
-        header[11] = 0;
+        header[IPV4_CLASS] = 0;
+        header[IPV4_LIFE] = 0;
+        header[IPV4_CHECKSUM] = 0;
+        header[IPV4_CHECKSUM + 1] = 0;
     } else {
         header[0] &= 0xf0; /* class and flow label */
         header[1] &= 0x0f;
-        header[7] = 0; /* hop limit */
+        header[IPV6_LIFE] = 0;
     }
 }
 
-bool is_last_hop(const unsigned char *bytes) { return bytes[bytes[0] >> 4 == 4 ? 8 : 7] <= 1; }
+bool is_last_hop(const unsigned char *bytes) {
+    bool is_ipv4 = bytes[0] >> 4 == 4;
+    return bytes[is_ipv4 ? IPV4_LIFE : IPV6_LIFE] <= 1;
+}
 
 uint64_t content_of(const unsigned char *bytes, size_t len) {
     unsigned char header[IPV6_HEADER] = {0};
@@ -54,7 +59,7 @@ uint64_t content_of(const unsigned char *bytes, size_t len) {
     memcpy(header, bytes, fixed);
     clear_changing(header, is_ipv4);
     uint64_t sum = mixed_bytes(1, header, fixed);
-    int checksum = checksum_of(is_ipv4 ? header[9] : header[6]);
+    int checksum = checksum_of(header[is_ipv4 ? IPV4_PROTOCOL : IPV6_NEXT]);
     if (is_ipv4 && header[0] != 0x45) checksum = NEITHER; /* behind options */
     if (checksum == NEITHER || len < fixed + (size_t)checksum + 2) return mixed_bytes(sum, bytes + fixed, len - fixed);
     sum = mixed_bytes(sum, bytes + fixed, (size_t)checksum);

@@ -4,7 +4,9 @@
 
 #include "octets.h"
 
-enum { IPV4_HEADER = 20, IPV6_HEADER = 40, FRAGMENT = 44, FRAGMENT_HEADER = 8, SHORTEST_EXTENSION = 8 };
+enum { IPV4_CLASS = 1, IPV4_FRAGMENT = 6, IPV4_PROTOCOL = 9, IPV4_SRC = 12, IPV4_DST = 16, IPV4_HEADER = 20 };
+enum { IPV6_NEXT = 6, IPV6_SRC = 8, IPV6_DST = 24, IPV6_HEADER = 40 };
+enum { FRAGMENT = 44, FRAGMENT_HEADER = 8, SHORTEST_EXTENSION = 8 };
 enum { ICMP_HEADER = 8, UNREACHABLE = 3, NO_NETWORK = 0, TOO_LONG = 4, UNREACHABLE_SIX = 1, NO_ROUTE_SIX = 0 }; /* RFC 792, RFC 4443 */
 
 /* Returns the number in eight bytes. */
@@ -20,24 +22,24 @@ static void read_ports(const unsigned char *bytes, size_t len, size_t header, st
 }
 
 static void dissect_ipv4(const unsigned char *bytes, size_t len, struct dn_packet *packet, struct headers *headers) {
-    packet->src = four(bytes + 12);
-    packet->dst = four(bytes + 16);
-    packet->proto = bytes[9];
-    *headers = (struct headers){mapped(packet->src), mapped(packet->dst), bytes[1] >> 2};
-    bool is_first_fragment = (two(bytes + 6) & 0x1fff) == 0;
+    packet->src = four(bytes + IPV4_SRC);
+    packet->dst = four(bytes + IPV4_DST);
+    packet->proto = bytes[IPV4_PROTOCOL];
+    *headers = (struct headers){mapped(packet->src), mapped(packet->dst), bytes[IPV4_CLASS] >> 2};
+    bool is_first_fragment = (two(bytes + IPV4_FRAGMENT) & 0x1fff) == 0;
     if (is_first_fragment) read_ports(bytes, len, (size_t)(bytes[0] & 15) * 4, packet);
 }
 
 static bool is_extension(uint8_t kind) { return kind == IPPROTO_HOPOPTS || kind == IPPROTO_ROUTING || kind == FRAGMENT || kind == IPPROTO_DSTOPTS; }
 
 static void dissect_ipv6(struct strangers *strangers, const unsigned char *bytes, size_t len, struct dn_packet *packet, struct headers *headers) {
-    uint8_t kind = bytes[6];
+    uint8_t kind = bytes[IPV6_NEXT];
     size_t header = IPV6_HEADER;
     bool is_first_fragment = true;
-    packet->src = stand_in(strangers, bytes + 8);
-    packet->dst = stand_in(strangers, bytes + 24);
-    headers->src = (struct address){eight(bytes + 8), eight(bytes + 16)};
-    headers->dst = (struct address){eight(bytes + 24), eight(bytes + 32)};
+    packet->src = stand_in(strangers, bytes + IPV6_SRC);
+    packet->dst = stand_in(strangers, bytes + IPV6_DST);
+    headers->src = (struct address){eight(bytes + IPV6_SRC), eight(bytes + IPV6_SRC + 8)};
+    headers->dst = (struct address){eight(bytes + IPV6_DST), eight(bytes + IPV6_DST + 8)};
     headers->dscp = (int)(two(bytes) >> 6 & 63);
     while (len >= header + SHORTEST_EXTENSION && is_extension(kind)) {
         const unsigned char *extension = bytes + header;
@@ -57,8 +59,8 @@ bool dissect(struct strangers *strangers, const unsigned char *bytes, size_t len
 }
 
 static bool is_icmp(const unsigned char *bytes) {
-    if (bytes[0] >> 4 == 6) return bytes[6] == IPPROTO_ICMPV6;
-    return bytes[9] == IPPROTO_ICMP;
+    if (bytes[0] >> 4 == 6) return bytes[IPV6_NEXT] == IPPROTO_ICMPV6;
+    return bytes[IPV4_PROTOCOL] == IPPROTO_ICMP;
 }
 
 /* Whether an ICMP message of this type and code reports a rejection that the kernel doesn't count. */

@@ -19,8 +19,10 @@ static size_t ip_header(const unsigned char *ip) { return is_ipv4(ip) ? IPV4_HEA
 
 /* Returns the protocol of an IP packet, or 0 if the packet has IPv4 options or is a fragment. */
 static int protocol_of(const unsigned char *ip) {
-    if (ip[0] == 0x45) return two(ip + IPV4_FRAGMENT) & 0x3fff ? 0 : ip[IPV4_PROTOCOL];
-    return ip[0] >> 4 == 6 ? ip[IPV6_PROTOCOL] : 0;
+    if (ip[0] >> 4 == 6) return ip[IPV6_PROTOCOL];
+    bool has_options = ip[0] != 0x45;
+    bool is_fragment = (two(ip + IPV4_FRAGMENT) & 0x3fff) != 0;
+    return has_options || is_fragment ? 0 : ip[IPV4_PROTOCOL];
 }
 
 static bool is_udp(const unsigned char *ip) { return protocol_of(ip) == IPPROTO_UDP; }
@@ -28,7 +30,10 @@ static bool is_udp(const unsigned char *ip) { return protocol_of(ip) == IPPROTO_
 /* Returns the bytes of the header of UDP or TCP, `len` bytes long with its data, or 0 if the packet can't be joined. TCP may only have the
    flags of data that goes on. */
 static size_t inner_header(const unsigned char *inner, size_t len, int protocol) {
-    if (protocol == IPPROTO_UDP) return len > UDP_HEADER && two(inner + UDP_LENGTH) == len ? UDP_HEADER : 0;
+    if (protocol == IPPROTO_UDP) {
+        bool is_whole = len > UDP_HEADER && two(inner + UDP_LENGTH) == len;
+        return is_whole ? UDP_HEADER : 0;
+    }
     if (protocol != IPPROTO_TCP || len < TCP_SHORTEST || (inner[TCP_FLAGS] & ~PUSH) != ACKNOWLEDGES) return 0;
     size_t header = (size_t)(inner[TCP_OFFSET] >> 4) * 4;
     return header < len ? header : 0;
@@ -41,8 +46,10 @@ static size_t headers_of(const struct bytes *packet) {
     int protocol = protocol_of(packet->at);
     size_t start = ip_header(packet->at);
     if (!(note.flags & VIRTIO_NET_HDR_F_NEEDS_CSUM) || note.csum_start != start || packet->len < start) return 0;
+    int checksum = protocol == IPPROTO_UDP ? UDP_CHECKSUM : TCP_CHECKSUM;
+    if (note.csum_offset != checksum) return 0;
     size_t inner = inner_header(packet->at + start, packet->len - start, protocol);
-    return inner && note.csum_offset == (protocol == IPPROTO_UDP ? UDP_CHECKSUM : TCP_CHECKSUM) ? start + inner : 0;
+    return inner ? start + inner : 0;
 }
 
 /* Whether two headers have the same bytes in a range. */
