@@ -33,7 +33,7 @@ struct acts {
 };
 
 struct acts *new_acts(void) {
-    return zeroed(sizeof(struct acts));
+    return allocate_zeros(sizeof(struct acts));
 }
 
 /* Returns the host with a name of `len` bytes, or NULL. */
@@ -54,7 +54,7 @@ bool add_host(struct acts *acts, const char *rest) {
     bool has_descriptors =
         take_int(&rest, 0, INT_MAX, &host.freeze) && take_int(&rest, 0, INT_MAX, &host.kill) && take_int(&rest, 0, INT_MAX, &host.events);
     if (!has_descriptors || *rest) return false;
-    acts->hosts = grown(acts->hosts, (acts->count + 1) * sizeof *acts->hosts);
+    acts->hosts = reallocate(acts->hosts, (acts->count + 1) * sizeof *acts->hosts);
     acts->hosts[acts->count++] = host;
     return true;
 }
@@ -73,7 +73,7 @@ static bool put(int descriptor, char digit) { return write(descriptor, &digit, 1
 /* Adds a stop to the host's, and freezes the host. */
 static bool stop(const struct act *act) {
     struct net_host *host = act->host;
-    host->stops = grown(host->stops, (host->stop_count + 1) * sizeof *host->stops);
+    host->stops = reallocate(host->stops, (host->stop_count + 1) * sizeof *host->stops);
     host->stops[host->stop_count++] = act->number;
     return put(host->freeze, '1');
 }
@@ -157,7 +157,7 @@ static bool is_empty(const struct net_host *host) {
 }
 
 static void note_done(struct net_host *host, struct done done) {
-    host->done = grown(host->done, (host->done_count + 1) * sizeof *host->done);
+    host->done = reallocate(host->done, (host->done_count + 1) * sizeof *host->done);
     host->done[host->done_count++] = done;
 }
 

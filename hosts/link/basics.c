@@ -40,13 +40,13 @@ int number_of(const char *word) {
     return number;
 }
 
-void *grown(void *old, size_t bytes) {
+void *reallocate(void *old, size_t bytes) {
     void *memory = realloc(old, bytes);
     if (!memory) fail("the link", "out of memory");
     return memory;
 }
 
-void *zeroed(size_t bytes) {
+void *allocate_zeros(size_t bytes) {
     void *memory = calloc(1, bytes);
     if (!memory) fail("the link", "out of memory");
     return memory;

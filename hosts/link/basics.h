@@ -22,10 +22,10 @@ bool take_number(const char **text, uint64_t *number);
 int number_of(const char *word);
 
 /* Returns memory of this size with the contents of `old`, which may be NULL. Ends the program if there is no memory. */
-void *grown(void *old, size_t bytes);
+void *reallocate(void *old, size_t bytes);
 
 /* Returns memory of this size with zeros, which occupies no memory of the system before its use. */
-void *zeroed(size_t bytes);
+void *allocate_zeros(size_t bytes);
 
 /* The clock of moments, which are ns since the epoch. */
 struct clock {

@@ -23,14 +23,14 @@ struct changes {
 };
 
 struct changes *new_changes(void) {
-    return zeroed(sizeof(struct changes));
+    return allocate_zeros(sizeof(struct changes));
 }
 
 /* Doubles the room of the list if it is full. The room is always a power of two. */
 static void make_room(struct changes *changes) {
     size_t count = changes->count;
     bool is_full = (count & (count - 1)) == 0;
-    if (is_full) changes->list = grown(changes->list, (count ? 2 * count : 1) * sizeof *changes->list);
+    if (is_full) changes->list = reallocate(changes->list, (count ? 2 * count : 1) * sizeof *changes->list);
 }
 
 /* Inserts a change behind the changes at its moment and before. */

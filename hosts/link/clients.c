@@ -55,7 +55,7 @@ static rlim_t raise_limit(void) {
 }
 
 struct clients *new_clients(const union end *server, struct way *back) {
-    struct clients *clients = zeroed(sizeof *clients);
+    struct clients *clients = allocate_zeros(sizeof *clients);
     clients->most = most_clients(raise_limit());
     clients->server = *server;
     clients->back = back;
@@ -179,7 +179,7 @@ static int open_socket(struct clients *clients, struct client *client) {
 /* Adds a client, or returns NULL if the system refuses its socket. */
 static struct client *add_client(struct clients *clients, const union end *end, uint64_t moment) {
     struct client **bucket = &clients->buckets[bucket_of(clients, end)];
-    struct client *client = grown(NULL, sizeof *client);
+    struct client *client = reallocate(NULL, sizeof *client);
     *client = (struct client){.end = *end, .active = moment, .in_bucket = *bucket};
     client->socket = open_socket(clients, client);
     if (client->socket < 0) {

@@ -9,22 +9,22 @@ enum { IPV6_NEXT = 6, IPV6_LIFE = 7, IPV6_HEADER = 40 };
 enum { TCP_CHECKSUM = 16, UDP_CHECKSUM = 6, NEITHER = -1 };
 
 /* Returns a sum that depends on the sum so far and on a word. */
-static uint64_t mixed(uint64_t sum, uint64_t word) {
+static uint64_t mix(uint64_t sum, uint64_t word) {
     __extension__ typedef unsigned __int128 wide;
     wide product = (wide)(sum ^ word) * 0x9e3779b97f4a7c15;
     return (uint64_t)product ^ (uint64_t)(product >> 64);
 }
 
-static uint64_t mixed_bytes(uint64_t sum, const unsigned char *bytes, size_t len) {
+static uint64_t mix_bytes(uint64_t sum, const unsigned char *bytes, size_t len) {
     uint64_t word;
     for (; len >= sizeof word; len -= sizeof word) {
         memcpy(&word, bytes, sizeof word);
-        sum = mixed(sum, word);
+        sum = mix(sum, word);
         bytes += sizeof word;
     }
     word = 0;
     memcpy(&word, bytes, len);
-    return mixed(sum, word ^ (uint64_t)len << 56);
+    return mix(sum, word ^ (uint64_t)len << 56);
 }
 
 /* Returns the place of a protocol's checksum behind the IP header, or NEITHER. */
@@ -58,15 +58,15 @@ uint64_t content_of(const unsigned char *bytes, size_t len) {
     size_t fixed = is_ipv4 ? IPV4_HEADER : IPV6_HEADER;
     memcpy(header, bytes, fixed);
     clear_changing(header, is_ipv4);
-    uint64_t sum = mixed_bytes(1, header, fixed);
+    uint64_t sum = mix_bytes(1, header, fixed);
     int checksum = checksum_of(header[is_ipv4 ? IPV4_PROTOCOL : IPV6_NEXT]);
     if (is_ipv4 && header[0] != 0x45) checksum = NEITHER; /* behind options */
-    if (checksum == NEITHER || len < fixed + (size_t)checksum + 2) return mixed_bytes(sum, bytes + fixed, len - fixed);
-    sum = mixed_bytes(sum, bytes + fixed, (size_t)checksum);
-    return mixed_bytes(sum, bytes + fixed + checksum + 2, len - fixed - (size_t)checksum - 2);
+    if (checksum == NEITHER || len < fixed + (size_t)checksum + 2) return mix_bytes(sum, bytes + fixed, len - fixed);
+    sum = mix_bytes(sum, bytes + fixed, (size_t)checksum);
+    return mix_bytes(sum, bytes + fixed + checksum + 2, len - fixed - (size_t)checksum - 2);
 }
 
-uint64_t content_of_bytes(const unsigned char *bytes, size_t len) { return mixed_bytes(1, bytes, len); }
+uint64_t content_of_bytes(const unsigned char *bytes, size_t len) { return mix_bytes(1, bytes, len); }
 
 size_t bits_behind_header(const unsigned char *bytes, size_t len) {
     size_t header = bytes[0] >> 4 == 4 ? (size_t)(bytes[0] & 15) * 4 : IPV6_HEADER;

@@ -35,7 +35,7 @@ struct cuts {
 enum line_kind { CUT_LINE, OPEN_LINE, HEAL_LINE, REMARK_LINE, LINKS_LINE };
 
 struct cuts *new_cuts(struct links *links, struct pacing *pacing, struct transcript *transcript, int most) {
-    struct cuts *cuts = zeroed(sizeof *cuts + (size_t)(most + 1) * sizeof *cuts->pipes);
+    struct cuts *cuts = allocate_zeros(sizeof *cuts + (size_t)(most + 1) * sizeof *cuts->pipes);
     *cuts = (struct cuts){.links = links, .pacing = pacing, .transcript = transcript, .most = most};
     return cuts;
 }
@@ -97,7 +97,7 @@ const char *wrong_with_line(struct cuts *cuts, const char *line) {
     }
 }
 
-static char *copied(const char *line) {
+static char *copy_line(const char *line) {
     char *copy = strdup(line);
     if (!copy) fail("the links", "out of memory");
     return copy;
@@ -115,9 +115,9 @@ static void remove_losses(char *line) {
 
 /* Returns a pipe's line, as a copy, with the loss rate that the pipe's cuts need: 1, or any rate above 0 for cuts of ports. */
 static char *line_with_cuts(const char *line, enum extent extent) {
-    if (extent == CUTS_NOTHING || (extent == CUTS_PORT && strstr(line, LOSS))) return copied(line);
+    if (extent == CUTS_NOTHING || (extent == CUTS_PORT && strstr(line, LOSS))) return copy_line(line);
     const char *loss = extent == CUTS_ALL ? LOSS_OF_ALL : LEAST_LOSS;
-    char *with_cuts = grown(NULL, strlen(line) + strlen(loss) + 1);
+    char *with_cuts = reallocate(NULL, strlen(line) + strlen(loss) + 1);
     memcpy(with_cuts, line, strlen(line) + 1);
     remove_losses(with_cuts);
     strcat(with_cuts, loss); /* NOLINT: there is room for the loss */
@@ -150,7 +150,7 @@ static size_t place_of_cut(const struct pipe *pipe, uint64_t number) {
 
 static void begin_cut(struct pipe *pipe, struct cut cut) {
     if (place_of_cut(pipe, cut.number) < pipe->count) return;
-    pipe->cuts = grown(pipe->cuts, (pipe->count + 1) * sizeof *pipe->cuts);
+    pipe->cuts = reallocate(pipe->cuts, (pipe->count + 1) * sizeof *pipe->cuts);
     pipe->cuts[pipe->count++] = cut;
 }
 
@@ -198,13 +198,13 @@ static struct pipe *target_of(struct cuts *cuts, const char *line, bool deletes)
 
 /* Has the links obey a line of theirs, with the cuts of its pipe, and keeps the line without the cuts. */
 static const char *follow_links_line(struct cuts *cuts, const char *typed) {
-    const char *line = canonical(cuts->links, typed);
+    const char *line = canonical_line(cuts->links, typed);
     bool deletes = begins(line, "pipe delete ");
     struct pipe *pipe = target_of(cuts, line, deletes);
-    const char *wrong = obey_latest(cuts, pipe && !deletes ? line_with_cuts(line, extent_of_cuts(pipe)) : copied(line));
+    const char *wrong = obey_latest(cuts, pipe && !deletes ? line_with_cuts(line, extent_of_cuts(pipe)) : copy_line(line));
     if (pipe && !wrong) {
         free(pipe->line);
-        pipe->line = deletes ? NULL : copied(line);
+        pipe->line = deletes ? NULL : copy_line(line);
     }
     return wrong;
 }

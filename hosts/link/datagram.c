@@ -18,7 +18,7 @@ static void write_ipv4(unsigned char *bytes, size_t data, const struct sockaddr_
     bytes[0] = 0x45;
     bytes[IPV4_LIFE] = HOPS;
     bytes[IPV4_PROTOCOL] = IPPROTO_UDP;
-    put_two(bytes + IPV4_LENGTH, IPV4_HEADER + UDP_HEADER + data);
+    put_u16(bytes + IPV4_LENGTH, IPV4_HEADER + UDP_HEADER + data);
     memcpy(bytes + IPV4_SRC, &from->sin_addr, 4);
     memcpy(bytes + IPV4_DST, &to->sin_addr, 4);
 }
@@ -28,7 +28,7 @@ static void write_ipv6(unsigned char *bytes, size_t data, const struct sockaddr_
     bytes[0] = 0x60;
     bytes[IPV6_NEXT] = IPPROTO_UDP;
     bytes[IPV6_LIFE] = HOPS;
-    put_two(bytes + IPV6_LENGTH, UDP_HEADER + data);
+    put_u16(bytes + IPV6_LENGTH, UDP_HEADER + data);
     memcpy(bytes + IPV6_SRC, &from->sin6_addr, 16);
     memcpy(bytes + IPV6_DST, &to->sin6_addr, 16);
 }
@@ -40,10 +40,10 @@ void write_headers(unsigned char *bytes, size_t data, const union end *from, con
     unsigned char *udp = bytes + (is_ipv4 ? IPV4_HEADER : IPV6_HEADER);
     if (is_ipv4) write_ipv4(bytes, data, &from->four, &to->four);
     else write_ipv6(bytes, data, &from->six, &to->six);
-    put_two(udp + UDP_SRC, ntohs(port_of(from)));
-    put_two(udp + UDP_DST, ntohs(port_of(to)));
-    put_two(udp + UDP_LENGTH, UDP_HEADER + data);
-    put_two(udp + UDP_CHECKSUM, 0);
+    put_u16(udp + UDP_SRC, ntohs(port_of(from)));
+    put_u16(udp + UDP_DST, ntohs(port_of(to)));
+    put_u16(udp + UDP_LENGTH, UDP_HEADER + data);
+    put_u16(udp + UDP_CHECKSUM, 0);
 }
 
 union end client_end(int way, const unsigned char *bytes) {

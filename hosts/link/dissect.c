@@ -10,23 +10,23 @@ enum { FRAGMENT = 44, FRAGMENT_HEADER = 8, SHORTEST_EXTENSION = 8 };
 enum { ICMP_HEADER = 8, UNREACHABLE = 3, NO_NETWORK = 0, TOO_LONG = 4, UNREACHABLE_SIX = 1, NO_ROUTE_SIX = 0 }; /* RFC 792, RFC 4443 */
 
 /* Returns the number in eight bytes. */
-static uint64_t eight(const unsigned char *at) { return (uint64_t)four(at) << 32 | four(at + 4); }
+static uint64_t u64_at(const unsigned char *at) { return (uint64_t)u32_at(at) << 32 | u32_at(at + 4); }
 
 /* Returns an IPv4 address as ::ffff:a.b.c.d. */
-static struct address mapped(uint32_t address) { return (struct address){0, UINT64_C(0xffff) << 32 | address}; }
+static struct address mapped_address(uint32_t address) { return (struct address){0, UINT64_C(0xffff) << 32 | address}; }
 
 static void read_ports(const unsigned char *bytes, size_t len, size_t header, struct dn_packet *packet) {
     if ((packet->proto != IPPROTO_TCP && packet->proto != IPPROTO_UDP) || len < header + 4) return;
-    packet->sport = (uint16_t)two(bytes + header);
-    packet->dport = (uint16_t)two(bytes + header + 2);
+    packet->sport = (uint16_t)u16_at(bytes + header);
+    packet->dport = (uint16_t)u16_at(bytes + header + 2);
 }
 
 static void dissect_ipv4(const unsigned char *bytes, size_t len, struct dn_packet *packet, struct headers *headers) {
-    packet->src = four(bytes + IPV4_SRC);
-    packet->dst = four(bytes + IPV4_DST);
+    packet->src = u32_at(bytes + IPV4_SRC);
+    packet->dst = u32_at(bytes + IPV4_DST);
     packet->proto = bytes[IPV4_PROTOCOL];
-    *headers = (struct headers){mapped(packet->src), mapped(packet->dst), bytes[IPV4_CLASS] >> 2};
-    bool is_first_fragment = (two(bytes + IPV4_FRAGMENT) & 0x1fff) == 0;
+    *headers = (struct headers){mapped_address(packet->src), mapped_address(packet->dst), bytes[IPV4_CLASS] >> 2};
+    bool is_first_fragment = (u16_at(bytes + IPV4_FRAGMENT) & 0x1fff) == 0;
     if (is_first_fragment) read_ports(bytes, len, (size_t)(bytes[0] & 15) * 4, packet);
 }
 
@@ -38,12 +38,12 @@ static void dissect_ipv6(struct strangers *strangers, const unsigned char *bytes
     bool is_first_fragment = true;
     packet->src = stand_in(strangers, bytes + IPV6_SRC);
     packet->dst = stand_in(strangers, bytes + IPV6_DST);
-    headers->src = (struct address){eight(bytes + IPV6_SRC), eight(bytes + IPV6_SRC + 8)};
-    headers->dst = (struct address){eight(bytes + IPV6_DST), eight(bytes + IPV6_DST + 8)};
-    headers->dscp = (int)(two(bytes) >> 6 & 63);
+    headers->src = (struct address){u64_at(bytes + IPV6_SRC), u64_at(bytes + IPV6_SRC + 8)};
+    headers->dst = (struct address){u64_at(bytes + IPV6_DST), u64_at(bytes + IPV6_DST + 8)};
+    headers->dscp = (int)(u16_at(bytes) >> 6 & 63);
     while (len >= header + SHORTEST_EXTENSION && is_extension(kind)) {
         const unsigned char *extension = bytes + header;
-        if (kind == FRAGMENT && (two(extension + 2) & 0xfff8)) is_first_fragment = false;
+        if (kind == FRAGMENT && (u16_at(extension + 2) & 0xfff8)) is_first_fragment = false;
         header += kind == FRAGMENT ? FRAGMENT_HEADER : (extension[1] + 1u) * 8;
         kind = extension[0];
     }
@@ -69,7 +69,7 @@ static bool is_rejection(bool is_ipv6, int type, int code) {
     return type == UNREACHABLE && code != NO_NETWORK && code != TOO_LONG;
 }
 
-const unsigned char *rejected(const unsigned char *bytes, size_t len, size_t *quoted) {
+const unsigned char *rejected_packet(const unsigned char *bytes, size_t len, size_t *quoted) {
     bool is_ipv6 = bytes[0] >> 4 == 6;
     size_t header = is_ipv6 ? IPV6_HEADER : (size_t)(bytes[0] & 15) * 4;
     if (len < header + ICMP_HEADER || !is_icmp(bytes)) return NULL;

@@ -24,4 +24,4 @@ bool dissect(struct strangers *strangers, const unsigned char *bytes, size_t len
 /* Returns the packet that an ICMP message quotes, with the number of its quoted bytes, if a system reports by the message that it has
    rejected the packet. Returns NULL for other packets, and for reports that there is no route or that the packet is too long: the kernel
    counts these drops. */
-const unsigned char *rejected(const unsigned char *bytes, size_t len, size_t *quoted);
+const unsigned char *rejected_packet(const unsigned char *bytes, size_t len, size_t *quoted);

@@ -17,7 +17,7 @@ struct held {
 };
 
 struct held *new_held(struct page *page) {
-    struct held *held = zeroed(sizeof *held);
+    struct held *held = allocate_zeros(sizeof *held);
     held->page = page;
     return held;
 }
@@ -32,9 +32,9 @@ void hold_again(struct held *held, struct packet *packet, uint64_t number) {
 
 /* Returns a room of a kind, which may be a free one. */
 static struct packet *new_room(struct held *held, int kind, size_t size) {
-    if (kind == KINDS) return grown(NULL, size);
+    if (kind == KINDS) return reallocate(NULL, size);
     struct packet *room = held->spare[kind];
-    if (!room) return grown(NULL, rooms[kind]);
+    if (!room) return reallocate(NULL, rooms[kind]);
     held->spare[kind] = room->next;
     return room;
 }

@@ -21,7 +21,7 @@ static size_t ip_header(const unsigned char *ip) { return is_ipv4(ip) ? IPV4_HEA
 static int protocol_of(const unsigned char *ip) {
     if (ip[0] >> 4 == 6) return ip[IPV6_PROTOCOL];
     bool has_options = ip[0] != 0x45;
-    bool is_fragment = (two(ip + IPV4_FRAGMENT) & 0x3fff) != 0;
+    bool is_fragment = (u16_at(ip + IPV4_FRAGMENT) & 0x3fff) != 0;
     return has_options || is_fragment ? 0 : ip[IPV4_PROTOCOL];
 }
 
@@ -31,7 +31,7 @@ static bool is_udp(const unsigned char *ip) { return protocol_of(ip) == IPPROTO_
    flags of data that goes on. */
 static size_t inner_header(const unsigned char *inner, size_t len, int protocol) {
     if (protocol == IPPROTO_UDP) {
-        bool is_whole = len > UDP_HEADER && two(inner + UDP_LENGTH) == len;
+        bool is_whole = len > UDP_HEADER && u16_at(inner + UDP_LENGTH) == len;
         return is_whole ? UDP_HEADER : 0;
     }
     if (protocol != IPPROTO_TCP || len < TCP_SHORTEST || (inner[TCP_FLAGS] & ~PUSH) != ACKNOWLEDGES) return 0;
@@ -60,13 +60,13 @@ static bool is_same(const unsigned char *first, const unsigned char *next, size_
 /* Whether two IP headers only differ in their lengths and checksums, and in IPv4 by `number` in their identifications. */
 static bool is_same_ip(const unsigned char *first, const unsigned char *next, unsigned number) {
     if (!is_ipv4(first)) return is_same(first, next, 0, 4) && is_same(first, next, IPV6_PROTOCOL, IPV6_HEADER);
-    return is_same(first, next, 0, 2) && (uint16_t)(two(first + IPV4_NUMBER) + number) == two(next + IPV4_NUMBER) &&
+    return is_same(first, next, 0, 2) && (uint16_t)(u16_at(first + IPV4_NUMBER) + number) == u16_at(next + IPV4_NUMBER) &&
            is_same(first, next, IPV4_FRAGMENT, IPV4_PROTOCOL + 1) && is_same(first, next, IPV4_ADDRESSES, IPV4_HEADER);
 }
 
 /* Whether two headers of TCP only differ in their flags and checksums, and by `data` in their sequence numbers. */
 static bool is_same_tcp(const unsigned char *first, const unsigned char *next, size_t header, uint32_t data) {
-    return is_same(first, next, 0, TCP_SEQUENCE) && four(first + TCP_SEQUENCE) + data == four(next + TCP_SEQUENCE) &&
+    return is_same(first, next, 0, TCP_SEQUENCE) && u32_at(first + TCP_SEQUENCE) + data == u32_at(next + TCP_SEQUENCE) &&
            is_same(first, next, TCP_ACKNOWLEDGED, TCP_FLAGS) && is_same(first, next, TCP_WINDOW, TCP_CHECKSUM) &&
            is_same(first, next, TCP_URGENT, header);
 }
@@ -109,7 +109,7 @@ size_t join(const struct bytes *packets, int count) {
     unsigned char *inner = packets->at + start;
     if (is_udp(packets->at)) {
         fit_checksum(inner + UDP_CHECKSUM, packets->len - start, len - start);
-        put_two(inner + UDP_LENGTH, len - start);
+        put_u16(inner + UDP_LENGTH, len - start);
     } else {
         fit_checksum(inner + TCP_CHECKSUM, packets->len - start, len - start);
         inner[TCP_FLAGS] |= packets[count - 1].at[start + TCP_FLAGS];

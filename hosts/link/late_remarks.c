@@ -18,7 +18,7 @@ struct late_remarks {
 
 struct late_remarks *new_late_remarks(int ways) {
     struct late_remarks *late = NULL;
-    return zeroed(sizeof *late + (size_t)ways * sizeof *late->ways);
+    return allocate_zeros(sizeof *late + (size_t)ways * sizeof *late->ways);
 }
 
 /* Where the page counts a kind of lateness of a way. */

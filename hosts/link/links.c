@@ -33,7 +33,7 @@ struct links {
     struct dn_delivery *deliveries; /* the packets of the last collect */
     uint64_t delivery_room;         /* the number of packets for which there is room */
     char wrong[DN_REASON_ROOM + 1]; /* the last result of wrong_by() */
-    char canonical[400];            /* the last result of canonical(); the longest has some 220 bytes */
+    char canonical[400];            /* the last result of canonical_line(); the longest has some 220 bytes */
 };
 
 static void open_new(struct dn_handle *handle) {
@@ -43,10 +43,10 @@ static void open_new(struct dn_handle *handle) {
 }
 
 struct links *open_links(struct transcript *transcript) {
-    struct links *links = zeroed(sizeof *links);
+    struct links *links = allocate_zeros(sizeof *links);
     links->transcript = transcript;
     links->delivery_room = 1024;
-    links->deliveries = grown(NULL, links->delivery_room * sizeof *links->deliveries);
+    links->deliveries = reallocate(NULL, links->delivery_room * sizeof *links->deliveries);
     open_new(&links->shaper);
     open_new(&links->trial);
     return links;
@@ -72,7 +72,7 @@ static struct held_line *find_or_add_line(struct links *links, const struct targ
     while (place < links->line_count && (links->lines[place].kind != target->kind || links->lines[place].number != target->number)) place++;
     if (place == links->line_count) {
         links->line_count++;
-        links->lines = grown(links->lines, links->line_count * sizeof *links->lines);
+        links->lines = reallocate(links->lines, links->line_count * sizeof *links->lines);
         links->lines[place] = (struct held_line){.kind = target->kind, .number = target->number};
     }
     return &links->lines[place];
@@ -113,7 +113,7 @@ const char *wrong_with(struct links *links, const char *line) {
     return wrong_by(links, status, &fault);
 }
 
-const char *canonical(struct links *links, const char *line) {
+const char *canonical_line(struct links *links, const char *line) {
     static const char front[] = "c,0,configure,";
     char *text = links->canonical;
     struct dn_fault fault;
@@ -158,7 +158,7 @@ static uint64_t collect_all(struct links *links, uint64_t moment, const struct d
     uint32_t status = dn_collect(&links->shaper, moment, links->deliveries, links->delivery_room, &count);
     while (status == DN_ROOM) {
         links->delivery_room = count + count / 2;
-        links->deliveries = grown(links->deliveries, links->delivery_room * sizeof *links->deliveries);
+        links->deliveries = reallocate(links->deliveries, links->delivery_room * sizeof *links->deliveries);
         status = dn_collect(&links->shaper, moment, links->deliveries, links->delivery_room, &count);
     }
     if (status != DN_OK) fail("the links", "out of memory");
@@ -183,10 +183,10 @@ uint64_t wake(struct links *links) {
 /* Returns the flows of all pipes and queues, which the caller frees, and their number. */
 static struct dn_flow *show_flows(struct links *links, uint64_t *count) {
     uint64_t room = 1024;
-    struct dn_flow *flows = grown(NULL, room * sizeof *flows);
+    struct dn_flow *flows = reallocate(NULL, room * sizeof *flows);
     while (dn_show(&links->shaper, flows, room, count) == DN_ROOM) {
         room = *count;
-        flows = grown(flows, room * sizeof *flows);
+        flows = reallocate(flows, room * sizeof *flows);
     }
     return flows;
 }

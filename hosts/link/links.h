@@ -11,7 +11,7 @@ struct links *open_links(struct transcript *transcript);
 const char *wrong_with(struct links *links, const char *line);
 
 /* Returns the library's spelling of a configuration line, which the next call overwrites; another line as it is. */
-const char *canonical(struct links *links, const char *line);
+const char *canonical_line(struct links *links, const char *line);
 
 /* Obeys a configuration line at the moment of the last call, and returns NULL, or why the line is refused. */
 const char *obey(struct links *links, const char *line);

@@ -16,7 +16,7 @@ struct losses {
 };
 
 /* Mixes the seed, the stream and the word's number by splitmix64, as hinge/captures/random_words.py does. */
-uint32_t drawn_word(uint64_t seed, uint64_t stream, uint64_t number) {
+uint32_t word_of_stream(uint64_t seed, uint64_t stream, uint64_t number) {
     uint64_t z = seed * 0x9e3779b97f4a7c15 + number * 0xd1b54a32d192ed03 + stream * 0x8cb92ba72f3d8dd7;
     z = (z ^ z >> 30) * 0xbf58476d1ce4e5b9;
     z = (z ^ z >> 27) * 0x94d049bb133111eb;
@@ -24,10 +24,10 @@ uint32_t drawn_word(uint64_t seed, uint64_t stream, uint64_t number) {
 }
 
 struct losses *new_losses(int ways) {
-    return zeroed((size_t)ways * sizeof(struct losses));
+    return allocate_zeros((size_t)ways * sizeof(struct losses));
 }
 
-static uint32_t draw(struct losses *model, int way) { return drawn_word(model->seed, (uint64_t)way, ++model->drawn); }
+static uint32_t draw(struct losses *model, int way) { return word_of_stream(model->seed, (uint64_t)way, ++model->drawn); }
 
 void set_seed(struct losses *losses, int way, uint64_t seed) { losses[way].seed = seed; }
 

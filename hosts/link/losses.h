@@ -25,4 +25,4 @@ void set_chosen(struct losses *losses, int way);
 uint32_t next_word(struct losses *losses, struct passes *passes, int way);
 
 /* Returns a stream's random word with a number, which begins at 1. A way's stream has the way's number. */
-uint32_t drawn_word(uint64_t seed, uint64_t stream, uint64_t number);
+uint32_t word_of_stream(uint64_t seed, uint64_t stream, uint64_t number);

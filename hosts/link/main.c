@@ -83,7 +83,7 @@ static bool run(struct host *host, struct waits *waits) {
 
 /* Returns the numbers that these words are. */
 static int *read_descriptors(int count, char **words) {
-    int *descriptors = grown(NULL, (size_t)count * sizeof *descriptors);
+    int *descriptors = reallocate(NULL, (size_t)count * sizeof *descriptors);
     for (int i = 0; i < count; i++) descriptors[i] = number_of(words[i]);
     return descriptors;
 }

@@ -46,7 +46,7 @@ struct pacing {
 };
 
 struct pacing *new_pacing(struct links *links, int most) {
-    struct pacing *pacing = zeroed(sizeof *pacing + (size_t)(most + 1) * sizeof *pacing->place_of);
+    struct pacing *pacing = allocate_zeros(sizeof *pacing + (size_t)(most + 1) * sizeof *pacing->place_of);
     pacing->links = links;
     pacing->most = most;
     return pacing;
@@ -59,7 +59,7 @@ static struct pipe *find_pipe(const struct pacing *pacing, int number) {
 }
 
 static struct pipe *add_pipe(struct pacing *pacing, int number) {
-    pacing->pipes = grown(pacing->pipes, (size_t)(pacing->count + 1) * sizeof *pacing->pipes);
+    pacing->pipes = reallocate(pacing->pipes, (size_t)(pacing->count + 1) * sizeof *pacing->pipes);
     struct pipe *pipe = &pacing->pipes[pacing->count++];
     *pipe = (struct pipe){0};
     pacing->place_of[number] = pacing->count;
@@ -77,7 +77,7 @@ void add_slots(struct pacing *pacing, int pipe, const uint32_t *moments, size_t 
 
 void add_hold(struct pacing *pacing, int number, uint64_t from, uint64_t to) {
     struct pipe *pipe = find_or_add_pipe(pacing, number);
-    pipe->holds = grown(pipe->holds, (pipe->hold_count + 1) * sizeof *pipe->holds);
+    pipe->holds = reallocate(pipe->holds, (pipe->hold_count + 1) * sizeof *pipe->holds);
     size_t place = pipe->hold_count++;
     while (place > pipe->holds_over && pipe->holds[place - 1].from > from) {
         pipe->holds[place] = pipe->holds[place - 1];
@@ -91,7 +91,7 @@ void pace(struct pacing *pacing, int number) { find_or_add_pipe(pacing, number);
 /* Doubles a full ring, with the first packet at its beginning. */
 static void widen_ring(struct pipe *pipe) {
     size_t room = pipe->room ? 2 * pipe->room : 64;
-    uint32_t *ring = grown(NULL, room * sizeof *ring);
+    uint32_t *ring = reallocate(NULL, room * sizeof *ring);
     for (size_t i = 0; i < pipe->count; i++) ring[i] = pipe->waiting[(pipe->first + i) % pipe->room];
     free(pipe->waiting);
     pipe->waiting = ring;

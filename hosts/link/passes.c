@@ -34,7 +34,7 @@ struct passes {
 };
 
 struct passes *new_passes(int ways) {
-    return zeroed((size_t)ways * sizeof(struct passes));
+    return allocate_zeros((size_t)ways * sizeof(struct passes));
 }
 
 void set_jitter(struct passes *passes, int way, int first, int count, uint64_t seed) {
@@ -56,7 +56,7 @@ void set_corruption(struct passes *passes, int way, uint32_t chance, uint64_t se
 void add_fault(struct passes *passes, int way, enum fault fault, uint64_t packet, int value) {
     struct faults *faults = &passes[way].faults[fault];
     bool is_full = (faults->length & (faults->length - 1)) == 0; /* the room is the next power of two */
-    if (is_full) faults->list = grown(faults->list, (faults->length ? 2 * faults->length : 1) * sizeof *faults->list);
+    if (is_full) faults->list = reallocate(faults->list, (faults->length ? 2 * faults->length : 1) * sizeof *faults->list);
     faults->list[faults->length++] = (struct packet_fault){packet, value};
 }
 
@@ -74,22 +74,22 @@ int fault_of(struct passes *passes, int way, enum fault fault) {
 int draw_second_pipe(struct passes *passes, int way) {
     struct passes *effects = &passes[way];
     if (!effects->pipe_count) return 0;
-    uint32_t word = drawn_word(effects->seed, OF_JITTER + (uint64_t)way, ++effects->jitters);
+    uint32_t word = word_of_stream(effects->seed, OF_JITTER + (uint64_t)way, ++effects->jitters);
     return effects->first_pipe + (int)(word % (uint32_t)effects->pipe_count);
 }
 
 bool draws_copy(struct passes *passes, int way) {
     struct passes *effects = &passes[way];
     if (!effects->copy_chance) return false;
-    return drawn_word(effects->seed, OF_COPIES + (uint64_t)way, ++effects->copies) < effects->copy_chance;
+    return word_of_stream(effects->seed, OF_COPIES + (uint64_t)way, ++effects->copies) < effects->copy_chance;
 }
 
 bool draws_corruption(struct passes *passes, int way) {
     struct passes *effects = &passes[way];
     if (!effects->corruption_chance) return false;
-    return drawn_word(effects->seed, OF_CORRUPTION + (uint64_t)way, ++effects->corruptions) < effects->corruption_chance;
+    return word_of_stream(effects->seed, OF_CORRUPTION + (uint64_t)way, ++effects->corruptions) < effects->corruption_chance;
 }
 
 size_t flipped_bit(const struct passes *passes, int way, size_t bits) {
-    return drawn_word(passes[way].seed, OF_BITS + (uint64_t)way, passes[way].corruptions) % bits;
+    return word_of_stream(passes[way].seed, OF_BITS + (uint64_t)way, passes[way].corruptions) % bits;
 }

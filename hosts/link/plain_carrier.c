@@ -23,7 +23,7 @@ static bool transmit(void *state, int way, const struct bytes *packets, int coun
 }
 
 struct carrier plain_carrier(int count, const int *descriptors) {
-    struct plain *plain = zeroed(sizeof *plain);
+    struct plain *plain = allocate_zeros(sizeof *plain);
     plain->ends = descriptors;
     for (int way = 0; way < count; way++) fcntl(descriptors[way], F_SETFL, O_NONBLOCK);
     return (struct carrier){.ways = count, .polled = descriptors, .state = plain, .receive = receive, .transmit = transmit};

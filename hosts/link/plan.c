@@ -78,7 +78,7 @@ static bool read_slots(struct host *host, const char *rest) {
     uint64_t moment = 0;
     int pipe;
     if (!take_pipe(host, &rest, &pipe)) return false;
-    uint32_t *moments = grown(NULL, (most + 1) * sizeof *moments);
+    uint32_t *moments = reallocate(NULL, (most + 1) * sizeof *moments);
     while (*rest) {
         uint64_t before = moment;
         if (!take_number(&rest, &moment) || moment < before || moment > UINT32_MAX) return false;
@@ -233,7 +233,7 @@ static bool read_main(struct host *host, const char *rest) {
     if (!try_behind_main(host, rest)) return false;
     char *line = strdup(rest);
     if (!line) fail("the plan", "out of memory");
-    plan->behind_main = grown(plan->behind_main, (plan->count + 1) * sizeof *plan->behind_main);
+    plan->behind_main = reallocate(plan->behind_main, (plan->count + 1) * sizeof *plan->behind_main);
     plan->behind_main[plan->count++] = line;
     return true;
 }

@@ -33,7 +33,7 @@ bool read_rule(const char *text, struct rule *rule) {
 }
 
 void add_rule(struct rules *rules, const struct rule *rule) {
-    rules->list = grown(rules->list, (rules->count + 1) * sizeof *rules->list);
+    rules->list = reallocate(rules->list, (rules->count + 1) * sizeof *rules->list);
     rules->list[rules->count++] = *rule;
 }
 

@@ -10,7 +10,7 @@ enum { TCP_SEQUENCE = 4, TCP_OFFSET = 12, TCP_FLAGS = 13, TCP_CHECKSUM = 16, TCP
 enum { FIN = 1, PUSH = 8, WINDOW_REDUCED = 128 };
 
 /* Folds a sum into the 16 bits of a checksum. */
-static unsigned folded(unsigned long sum) {
+static unsigned fold(unsigned long sum) {
     while (sum >> 16) sum = (sum & 0xffff) + (sum >> 16);
     return (unsigned)sum;
 }
@@ -40,24 +40,24 @@ void begin_cutting(struct whole *whole, size_t len) {
 void fit_ip(unsigned char *ip, size_t len, size_t number) {
     unsigned long sum = 0;
     if (ip[0] >> 4 == 6) {
-        put_two(ip + IPV6_LENGTH, (unsigned)(len - IPV6_HEADER));
+        put_u16(ip + IPV6_LENGTH, (unsigned)(len - IPV6_HEADER));
         return;
     }
-    put_two(ip + IPV4_LENGTH, (unsigned)len);
-    put_two(ip + IPV4_NUMBER, two(ip + IPV4_NUMBER) + (unsigned)number);
-    put_two(ip + IPV4_CHECKSUM, 0);
-    for (size_t at = 0; at < (size_t)(ip[0] & 15) * 4; at += 2) sum += two(ip + at);
-    put_two(ip + IPV4_CHECKSUM, ~folded(sum));
+    put_u16(ip + IPV4_LENGTH, (unsigned)len);
+    put_u16(ip + IPV4_NUMBER, u16_at(ip + IPV4_NUMBER) + (unsigned)number);
+    put_u16(ip + IPV4_CHECKSUM, 0);
+    for (size_t at = 0; at < (size_t)(ip[0] & 15) * 4; at += 2) sum += u16_at(ip + at);
+    put_u16(ip + IPV4_CHECKSUM, ~fold(sum));
 }
 
-void fit_checksum(unsigned char *checksum, size_t was, size_t is) { put_two(checksum, folded(two(checksum) + (0xffff - was % 0x10000) + is)); }
+void fit_checksum(unsigned char *checksum, size_t was, size_t is) { put_u16(checksum, fold(u16_at(checksum) + (0xffff - was % 0x10000) + is)); }
 
 /* Adapts the header of TCP with `length` bytes, whose data are `before` bytes behind the first: its sequence number, its flags and its
    partial sum. */
 static void fit_tcp(unsigned char *tcp, size_t before, bool is_last, size_t whole_length, size_t length) {
-    unsigned long sequence = four(tcp + TCP_SEQUENCE) + before;
-    put_two(tcp + TCP_SEQUENCE, (unsigned)(sequence >> 16));
-    put_two(tcp + TCP_SEQUENCE + 2, (unsigned)sequence);
+    unsigned long sequence = u32_at(tcp + TCP_SEQUENCE) + before;
+    put_u16(tcp + TCP_SEQUENCE, (unsigned)(sequence >> 16));
+    put_u16(tcp + TCP_SEQUENCE + 2, (unsigned)sequence);
     if (!is_last) tcp[TCP_FLAGS] &= (unsigned char)~(FIN | PUSH);
     if (before > 0) tcp[TCP_FLAGS] &= (unsigned char)~WINDOW_REDUCED;
     fit_checksum(tcp + TCP_CHECKSUM, whole_length, length);
@@ -87,7 +87,7 @@ void finish_checksum(unsigned char *packet, size_t len) {
     size_t place = (size_t)note.csum_start + note.csum_offset;
     memset(packet - NOTE, 0, NOTE);
     if (!(note.flags & VIRTIO_NET_HDR_F_NEEDS_CSUM) || place + 2 > len) return;
-    for (size_t at = note.csum_start; at < len; at += 2) sum += at + 1 < len ? two(packet + at) : (unsigned)packet[at] << 8;
-    unsigned checksum = ~folded(sum) & 0xffff;
-    put_two(packet + place, checksum ? checksum : 0xffff); /* in UDP, 0 means that there is no checksum */
+    for (size_t at = note.csum_start; at < len; at += 2) sum += at + 1 < len ? u16_at(packet + at) : (unsigned)packet[at] << 8;
+    unsigned checksum = ~fold(sum) & 0xffff;
+    put_u16(packet + place, checksum ? checksum : 0xffff); /* in UDP, 0 means that there is no checksum */
 }

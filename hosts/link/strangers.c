@@ -29,7 +29,7 @@ static size_t first_place(const unsigned char address[16]) {
 }
 
 struct strangers *new_strangers(struct transcript *transcript) {
-    struct strangers *strangers = zeroed(sizeof *strangers);
+    struct strangers *strangers = allocate_zeros(sizeof *strangers);
     strangers->transcript = transcript;
     return strangers;
 }
@@ -37,7 +37,7 @@ struct strangers *new_strangers(struct transcript *transcript) {
 /* Remarks the address that stands for a stranger, and the stranger's address. */
 static void remark_address(struct transcript *transcript, uint32_t stand_in, const unsigned char *address) {
     remark(transcript, "#,address,%u.%u.%u.%u", stand_in >> 24, stand_in >> 16 & 255, stand_in >> 8 & 255, stand_in & 255);
-    for (int i = 0; i < 16; i += 2) remark(transcript, "%c%04x", i ? ':' : ',', two(address + i));
+    for (int i = 0; i < 16; i += 2) remark(transcript, "%c%04x", i ? ':' : ',', u16_at(address + i));
     remark(transcript, "\n");
 }
 

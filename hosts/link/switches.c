@@ -30,7 +30,7 @@ struct switches {
 };
 
 struct switches *new_switches(int ways) {
-    return zeroed(sizeof(struct switches) + (size_t)ways * sizeof(int));
+    return allocate_zeros(sizeof(struct switches) + (size_t)ways * sizeof(int));
 }
 
 bool add_switch(struct switches *switches, const int *ways, int count) {
@@ -40,12 +40,12 @@ bool add_switch(struct switches *switches, const int *ways, int count) {
         if (place_of[ways[i]] || place_of[back(ways[i])] == place) return false;
         place_of[ways[i]] = place;
     }
-    switches->list = grown(switches->list, (size_t)place * sizeof *switches->list);
+    switches->list = reallocate(switches->list, (size_t)place * sizeof *switches->list);
     struct frame_switch *added = &switches->list[switches->count++];
     added->count = count;
-    added->ways = grown(NULL, (size_t)count * sizeof *ways);
+    added->ways = reallocate(NULL, (size_t)count * sizeof *ways);
     memcpy(added->ways, ways, (size_t)count * sizeof *ways);
-    added->senders = zeroed(sizeof *added->senders * SETS * PLACES);
+    added->senders = allocate_zeros(sizeof *added->senders * SETS * PLACES);
     return true;
 }
 

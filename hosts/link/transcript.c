@@ -40,8 +40,8 @@ struct transcript {
 };
 
 struct transcript *new_transcript(struct page *page) {
-    struct transcript *transcript = zeroed(sizeof *transcript);
-    *transcript = (struct transcript){.page = page, .pipe = CLOSED, .records = zeroed(BUFFER), .room = BUFFER};
+    struct transcript *transcript = allocate_zeros(sizeof *transcript);
+    *transcript = (struct transcript){.page = page, .pipe = CLOSED, .records = allocate_zeros(BUFFER), .room = BUFFER};
     return transcript;
 }
 
@@ -128,7 +128,7 @@ static inline void put(struct transcript *transcript, enum kind kind, const void
     if (transcript->pipe == CLOSED) return;
     if (whole > transcript->room - transcript->used) hand_on(transcript);
     if (whole > transcript->room) {
-        transcript->records = grown(transcript->records, whole);
+        transcript->records = reallocate(transcript->records, whole);
         transcript->room = whole;
     }
     struct record *record = (void *)(transcript->records + transcript->used);

@@ -49,7 +49,7 @@ static bool accepts_joined_udp(void) {
 }
 
 struct carrier tun_carrier(int count, const int *descriptors) {
-    struct tuns *tuns = zeroed(sizeof *tuns);
+    struct tuns *tuns = allocate_zeros(sizeof *tuns);
     tuns->interfaces = descriptors;
     for (int way = 0; way < count; way++) fcntl(descriptors[way], F_SETFL, O_NONBLOCK);
     struct carrier carrier = {.ways = count, .polled = descriptors, .prefix = NOTE, .state = tuns, .receive = receive, .transmit = transmit};

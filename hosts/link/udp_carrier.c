@@ -121,7 +121,7 @@ static union end server_end(const char *address, in_port_t port) {
 }
 
 struct carrier udp_carrier(int front, const char *address, const char *port, struct page *page, const struct clock *clock) {
-    struct udp *udp = zeroed(sizeof *udp);
+    struct udp *udp = allocate_zeros(sizeof *udp);
     udp->clock = clock;
     udp->ways = page->ways;
     udp->front = front;

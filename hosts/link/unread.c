@@ -40,7 +40,7 @@ static uint64_t read_queued(struct unread *unread) {
 }
 
 struct unread *begin_unread(int ways, struct clock *clock) {
-    struct unread *unread = zeroed(sizeof *unread + (size_t)ways * sizeof *unread->interfaces);
+    struct unread *unread = allocate_zeros(sizeof *unread + (size_t)ways * sizeof *unread->interfaces);
     unread->schedstat = clock->stands ? -1 : open("/proc/thread-self/schedstat", O_RDONLY | O_CLOEXEC);
     read_queued(unread);
     unread->waited = now(clock);

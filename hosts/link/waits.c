@@ -66,10 +66,10 @@ static uint64_t next_beat(const struct waits *waits, uint64_t moment) {
 }
 
 struct waits *new_waits(struct clock *clock, const int *polled, int ways, int signal, int control, bool spins) {
-    struct waits *waits = grown(NULL, sizeof *waits);
+    struct waits *waits = reallocate(NULL, sizeof *waits);
     *waits = (struct waits){.clock = clock, .spins = spins, .ways = ways, .first_beat = DN_NEVER, .timer_moment = DN_NEVER};
-    waits->ready = grown(NULL, (size_t)ways * sizeof *waits->ready);
-    waits->events = grown(NULL, (size_t)(ways + OTHERS) * sizeof *waits->events);
+    waits->ready = reallocate(NULL, (size_t)ways * sizeof *waits->ready);
+    waits->events = reallocate(NULL, (size_t)(ways + OTHERS) * sizeof *waits->events);
     waits->timer = new_timer();
     waits->polling = epoll_create1(EPOLL_CLOEXEC);
     if (waits->polling < 0) fail("epoll", strerror(errno));

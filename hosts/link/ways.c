@@ -26,7 +26,7 @@ static void remark_rejected(const struct host *host, int way, const struct paylo
     struct dn_packet lost;
     struct headers headers;
     if (!host->remarks_contents || !payload->is_ip) return;
-    const unsigned char *bytes = rejected(payload->bytes, payload->len, &len);
+    const unsigned char *bytes = rejected_packet(payload->bytes, payload->len, &len);
     if (!bytes || !dissect(host->strangers, bytes, len, &lost, &headers)) return;
     remark(host->transcript, "#,rejected,%" PRIu64 ",%d,%" PRIu32 ",%" PRIu32 ",%" PRIu32 "\n", packet->moment, way + 1, packet->src, lost.src,
            lost.dst);

@@ -54,7 +54,7 @@ static uint64_t add_lines(struct writer *writer, const struct record *record) {
     uint32_t status = make_lines(writer, record, &length);
     while (status == DN_ROOM) {
         writer->line_room = writer->line_size + 2 * length;
-        writer->lines = grown(writer->lines, writer->line_room);
+        writer->lines = reallocate(writer->lines, writer->line_room);
         status = make_lines(writer, record, &length);
     }
     if (status != DN_OK) fail("the transcript", "out of memory");
@@ -83,7 +83,7 @@ static uint64_t take_records(struct writer *writer) {
     writer->held -= at;
     memmove(writer->records, writer->records + at, writer->held);
     if (size > writer->room) {
-        writer->records = grown(writer->records, size);
+        writer->records = reallocate(writer->records, size);
         writer->room = size;
     }
     return spared;
@@ -101,8 +101,8 @@ static void write_lines(struct writer *writer, const char *path) {
 
 _Noreturn void write_part(int pipe, int file, const char *path, _Atomic uint64_t *spared) {
     struct writer writer = {.file = file, .room = 1 << 16, .line_size = strlen(FIRST_LINE), .line_room = TIMES << 16};
-    writer.records = grown(NULL, writer.room);
-    writer.lines = grown(NULL, writer.line_room);
+    writer.records = reallocate(NULL, writer.room);
+    writer.lines = reallocate(NULL, writer.line_room);
     memcpy(writer.lines, FIRST_LINE, writer.line_size);
     while (true) {
         ssize_t len = read(pipe, writer.records + writer.held, writer.room - writer.held);
