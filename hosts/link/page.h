@@ -16,7 +16,7 @@ struct way {
     uint64_t came_bytes;        /* bytes */
     uint64_t sent;              /* sent on by the system */
     uint64_t sent_bytes;        /* bytes */
-    uint64_t lost;              /* lost by the link's loss rate, or by a cut */
+    uint64_t lost;              /* lost by the link: by its loss rate, a cut or a fault */
     uint64_t full;              /* dropped by a full queue */
     uint64_t no_target;         /* submitted to a pipe or queue that didn't exist */
     uint64_t refused;           /* refused by the system behind the link */
