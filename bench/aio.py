@@ -8,8 +8,6 @@ and with one. Beside it is asyncio alone, on a clock that jumps: a timer and a c
 hosts, 16,000 endpoints of a host, and what a small test of pytest takes more than an empty one, with its processes.
 """
 
-from __future__ import annotations
-
 import asyncio
 import os
 import resource
@@ -25,7 +23,11 @@ sys.path.insert(0, str(TOP / "python"))
 
 from hingetulip import aio  # noqa: E402
 
-A_SECOND, LENGTH, HOSTS, ENDPOINTS, TESTS = 100, 100, (100, 3000), 16_000, 40
+A_SECOND = 100
+LENGTH = 100
+HOSTS = (100, 3000)
+ENDPOINTS = 16_000
+TESTS = 40
 OF_A_STAR = 3000  # datagrams
 TEST = """
 import pytest
@@ -151,9 +153,8 @@ def main() -> None:
         for hosts in HOSTS:
             print(f"us a datagram in a star of {hosts} hosts: {min(star(hosts) for _ in range(rounds)):.1f}", flush=True)
         print(f"s for {ENDPOINTS} endpoints of a host: {min(endpoints(ENDPOINTS) for _ in range(rounds)):.2f}", flush=True)
-        empty, small = TEST.format(count=TESTS, kind="def", fixture="", body="pass"), TEST.format(
-            count=TESTS, kind="async def", fixture="sim_net, ", body=BODY
-        )
+        empty = TEST.format(count=TESTS, kind="def", fixture="", body="pass")
+        small = TEST.format(count=TESTS, kind="async def", fixture="sim_net, ", body=BODY)
         took = [min(pytest_run(folder, text) for _ in range(rounds)) for text in (empty, small)]
         print(f"ms of a small test: {(took[1] - took[0]) / TESTS * 1000:.1f}")
 

@@ -1,5 +1,5 @@
 /* How fast a replay can be: the report of `dummynet replay CONFIG PACKETS`, byte for byte, for the loads of loads.py, with all that a
-   processor offers and without any proof. bench/limit.py compares the program with it; it is no part of the product.
+   processor offers and without any proof. bench/replay.py compares the program with it; it is no part of the product.
 
    What makes it fast: the separators of 64 bytes are found by one comparison each, and then the numbers of 64 rows are made together;
    the flows of 64 rows are looked up in tight passes before the first of the rows is handled, so that the processor waits for many

@@ -8,8 +8,6 @@ through 10 Gbit/s and 1 ms. Each with a transcript and without one. The link goe
 before all but the link, so as root. The processor's time is the host's, without that of the transcript's writer.
 """
 
-from __future__ import annotations
-
 import json
 import re
 import subprocess

@@ -9,8 +9,6 @@ which a tenth more is sent than the pipe carries, so that all of them wait; and 
 320,000 flows. The same words give the same files.
 """
 
-from __future__ import annotations
-
 import sys
 from collections.abc import Callable, Iterator
 from functools import partial

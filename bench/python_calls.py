@@ -6,8 +6,6 @@
 Packets of 1,000 bytes, one each 1,000 ns, go to a pipe of 10 Gbit/s and 1 ms, so that 1,000 are under way, and all are collected.
 """
 
-from __future__ import annotations
-
 import sys
 import time
 from array import array
@@ -33,7 +31,9 @@ def one_by_one(shaper: hingetulip.Shaper, count: int) -> int:
 
 def by_columns(shaper: hingetulip.Shaper, count: int) -> int:
     """A submit_many and a collect_many for 1,000 packets, whose moments are written anew."""
-    came, packets, lasting = 0, hingetulip.Packets(1000, moment=0, length=1000, pipe=1, word=0), 1000 * STEP
+    came = 0
+    packets = hingetulip.Packets(1000, moment=0, length=1000, pipe=1, word=0)
+    lasting = 1000 * STEP
     for first in range(0, count * STEP, lasting):
         packets.moment[:] = array("Q", range(first, first + lasting, STEP))
         shaper.submit_many(packets)

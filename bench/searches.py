@@ -6,8 +6,6 @@ For each command, which fails by another status than 0 or after 5 s: the seeds b
 native runs; then the seconds to a failure by both, for the table of docs/inside/PERFORMANCE.md.
 """
 
-from __future__ import annotations
-
 import re
 import resource
 import shlex
@@ -39,7 +37,8 @@ def used() -> float:
 
 def searched(words: "list[str]", seeds: int) -> Price:
     """As `hinge search run` makes its runs, without the shrinking."""
-    runner, before = Runner(SearchSettings(["run"], "drawn", None, "1h", words)), used()
+    runner = Runner(SearchSettings(["run"], "drawn", None, "1h", words))
+    before = used()
     return Price(sum(runner.run(["run"], seed, "drawn").failed for seed in range(1, seeds + 1)), seeds, used() - before)
 
 

@@ -8,8 +8,6 @@ run by turns. A figure is the median of the rounds in ns a call over all callers
 Python makes a tenth of the calls.
 """
 
-from __future__ import annotations
-
 import re
 import statistics
 import subprocess
@@ -42,7 +40,8 @@ KINDS = {"moves": make_moves, "packets": send_packets}
 
 def call(kind: str, callers: str, count: str) -> None:
     """Prints the ns a call over all of some threads, each with a caller of its own."""
-    ready, each = Barrier(int(callers) + 1), int(count) // int(callers)
+    ready = Barrier(int(callers) + 1)
+    each = int(count) // int(callers)
 
     def work(caller: Caller) -> None:
         ready.wait()

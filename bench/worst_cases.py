@@ -5,8 +5,6 @@
 tools/hostile writes the inputs, each at the size that its row says. Time is user and system time, and memory the most that stood in it.
 """
 
-from __future__ import annotations
-
 import os
 import subprocess
 import sys

@@ -18,7 +18,10 @@ class Sender:
     """The window in packets, the moments at which the packets under way were sent, and what was seen: moment, window, round trip."""
 
     def __init__(self) -> None:
-        self.window, self.next, self.halved_till, self.halvings = 1.0, 0, 0, 0
+        self.window = 1.0
+        self.next = 0
+        self.halved_till = 0
+        self.halvings = 0
         self.sent: dict[int, int] = {}
         self.seen: list[tuple[int, float, int]] = []
 
@@ -35,7 +38,9 @@ class Sender:
         if not lost:
             self.window += 1 / self.window
         elif lost[-1] >= self.halved_till:
-            self.window, self.halved_till, self.halvings = max(self.window / 2, 1.0), self.next, self.halvings + 1
+            self.window = max(self.window / 2, 1.0)
+            self.halved_till = self.next
+            self.halvings = self.halvings + 1
         self.seen.append((moment, self.window, moment - self.sent.pop(number)))
 
 
@@ -85,7 +90,8 @@ def draw(sender: Sender, file: str) -> None:
 
 def main() -> None:
     sender = Sender()
-    came, trips = simulate(sender), [trip / MS for _, _, trip in sender.seen]
+    came = simulate(sender)
+    trips = [trip / MS for _, _, trip in sender.seen]
     print(
         f"{came} packets came in {SECONDS} s, {came * 1500 * 8 / SECONDS / 10**6:.2f} Mbit/s. The window was halved {sender.halvings} times. "
         f"A round trip took {min(trips):.1f} to {max(trips):.1f} ms."

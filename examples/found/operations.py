@@ -101,7 +101,8 @@ def check_registers(
     Each second has a register, and each value is written once."""
 
     def work(client: int) -> None:
-        draw, count = random.Random(random.SystemRandom().random()), 0
+        draw = random.Random(random.SystemRandom().random())
+        count = 0
         seen: Optional[int] = None
         while until(40):
             time.sleep(draw.random() * 0.2)

@@ -63,7 +63,10 @@ def pieces(lines: Iterable[str]) -> Iterator[list[bytes]]:
 class Session:
     def __init__(self, words: str, transcript: Optional[str] = None, most: int = MOST) -> None:
         """Begins a session, and keeps all that the program writes in the file of that name, if there is one."""
-        self.words, self.name, self.most, self.rolled = words, transcript, most, 0
+        self.words = words
+        self.name = transcript
+        self.most = most
+        self.rolled = 0
         self.links: list[str] = []
         self.begin(transcript)
 
@@ -74,7 +77,8 @@ class Session:
             [self.words, "live"], stdin=subprocess.PIPE, stdout=subprocess.PIPE, bufsize=0, start_new_session=True
         )
         assert self.process.stdin and self.process.stdout
-        self.lines, self.answers = self.process.stdin, io.BufferedReader(self.process.stdout)  # type: ignore[type-var]
+        self.lines = self.process.stdin  # type: ignore[type-var]
+        self.answers = io.BufferedReader(self.process.stdout)  # type: ignore[type-var]
         if self.record() != BEGUN:
             raise Failed(f"{self.words} live doesn't begin a session")
 

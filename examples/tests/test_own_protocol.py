@@ -12,7 +12,8 @@ class Server(threading.Thread):
 
     def __init__(self):
         super().__init__(daemon=True)
-        self.socket, self.kept = socket.socket(socket.AF_INET, socket.SOCK_DGRAM), {}
+        self.socket = socket.socket(socket.AF_INET, socket.SOCK_DGRAM)
+        self.kept = {}
         self.socket.bind(("127.0.0.1", 0))
         self.port = self.socket.getsockname()[1]
 
@@ -47,7 +48,8 @@ def put_all(address, pairs, timer=0.1, tries=20):
 def test_every_pair_is_kept(udp_path):
     server = Server()
     server.start()
-    pairs, begun = {f"key{number}": str(number) for number in range(30)}, time.monotonic()
+    pairs = {f"key{number}": str(number) for number in range(30)}
+    begun = time.monotonic()
     sent = put_all(udp_path(server.port).address, pairs)
     assert server.kept == pairs
     assert sent > len(pairs)  # some were lost, and sent again

@@ -63,7 +63,8 @@ def refuse(words: list[str], program: str = "hinge") -> None:
             sys.exit(become([dummynet(), *words]))
         terminal.tell(f"{program}{wrong.replace(';', ':', 1)}")
         sys.exit(USAGE)
-    answer, near = answer_of(words), difflib.get_close_matches(words[0], COMMANDS, 1)
+    answer = answer_of(words)
+    near = difflib.get_close_matches(words[0], COMMANDS, 1)
     files = [word for word in words if os.path.exists(word) and kind_of(word)]
     place = next((place for place, word in enumerate(words) if word.lower() in COMMANDS), -1)
     if program == "dummynet" and len(files) == 2 and files == words[-2:]:
@@ -109,7 +110,7 @@ def obey(words: list[str]) -> None:
     from hinge.version import version
 
     if words[:1] == ["help"] and len(words) > 1:
-        words = [words[1], *["--help"] * (words[1] in COMMANDS)]
+        words = [words[1], *(["--help"] if words[1] in COMMANDS else [])]
     if not words:
         terminal.tell(list_of_commands(), "")
         sys.exit(USAGE)

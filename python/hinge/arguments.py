@@ -14,10 +14,7 @@ from hinge.command_line import add
 if TYPE_CHECKING:
     from hinge.outputs import Format
 
-SOURCE = (
-    "a history or the transcript of a live session, or a packet file and the report that dummynet wrote of it; "
-    "`-` is standard input"
-)
+SOURCE = "a history or the transcript of a live session, or a packet file and the report that dummynet wrote of it; `-` is standard input"
 RULE = (
     "[up|down] [tcp|udp|icmp|icmp6|proto N] [src|dst|host NET] [port|sport|dport N[-M]] [dscp N]"  # that says where a packet goes
 )
@@ -57,8 +54,8 @@ def file_of(*formats: Format) -> Callable[[str], str]:
 
     def name(text: str) -> str:
         if not text.lower().endswith(endings):
-            table = "--csv " * text.endswith(".csv") + f"> {shlex.quote(text)}"
-            also = f"; in place of -o write {table}" * text.endswith((".csv", ".txt"))
+            table = ("--csv " if text.endswith(".csv") else "") + f"> {shlex.quote(text)}"
+            also = f"; in place of -o write {table}" if text.endswith((".csv", ".txt")) else ""
             raise argparse.ArgumentTypeError(f"{text!r} doesn't end in {', '.join(endings)}{also}")
         return text
 
@@ -77,13 +74,8 @@ def add_source(
 
 def add_flows(line: argparse.ArgumentParser, most: int, default: Optional[int], text: str) -> None:
     """Adds the options that group flows and set the number of groups."""
-    add(
-        line,
-        "--by",
-        "what a flow is: packets of a five-tuple (the default), a flow of dummynet, or all packets to a pipe or queue",
-        choices=WAYS,
-        default="tuple",
-    )
+    kinds = "what a flow is: packets of a five-tuple (the default), a flow of dummynet, or all packets to a pipe or queue"
+    add(line, "--by", kinds, choices=WAYS, default="tuple")
     add(line, "--top N", f"the N largest flows, the rest as one (default: {text})", type=bounded(1, most), default=default)
 
 

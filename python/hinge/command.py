@@ -16,7 +16,12 @@ if TYPE_CHECKING:
 
 from hinge.border.terminal import note_defect, printable, silence, tell, tell_over
 
-USAGE, CONFIGURATION, ROWS, FILES, MISSING, NOT_FOUND = 2, 3, 4, 6, 7, 127
+USAGE = 2
+CONFIGURATION = 3
+ROWS = 4
+FILES = 6
+MISSING = 7
+NOT_FOUND = 127
 DEFECT, INTERRUPTED = 70, 130
 STATUSES = "0 done, 2 command line, 3 configuration, 4 packet file, report or capture, 6 files, 7 a package is missing"
 WIDTH = 80  # columns of a help
@@ -79,7 +84,7 @@ def open_closed_streams() -> None:
 
 def say(line: str) -> None:
     """Prints a line on standard error, which may quote others' text."""
-    tell(f"{NAME[0]}: {printable(line[:LONGEST])}" + " .." * (len(line) > LONGEST))
+    tell(f"{NAME[0]}: {printable(line[:LONGEST])}" + (" .." if len(line) > LONGEST else ""))
 
 
 def advised(refusal: str) -> str:
@@ -206,8 +211,13 @@ class Bar:
     """Prints a command's progress and expected end on standard error, if that is a terminal, after two seconds."""
 
     def __init__(self, what: str, total: int) -> None:
-        self.what, self.total, self.done, self.failed = what, total, 0, 0
-        self.began, self.told, self.shown = time.monotonic(), 0.0, False
+        self.what = what
+        self.total = total
+        self.done = 0
+        self.failed = 0
+        self.began = time.monotonic()
+        self.told = 0.0
+        self.shown = False
 
     def step(self, failed: bool = False) -> None:
         self.done, self.failed, now = self.done + 1, self.failed + failed, time.monotonic()

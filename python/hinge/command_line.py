@@ -76,7 +76,8 @@ class Parser(argparse.ArgumentParser):
         """Reads an option's values, each time that it occurs."""
         if not action.option_strings:
             return super()._get_values(action, texts)
-        option, is_list = action.option_strings[0], isinstance(action, argparse._AppendAction)
+        option = action.option_strings[0]
+        is_list = isinstance(action, argparse._AppendAction)
         if not all(text.strip() for text in texts):
             raise argparse.ArgumentError(action, "its value is empty; is a variable unset?")
         before = self.given.get(option, [])
@@ -85,7 +86,7 @@ class Parser(argparse.ArgumentParser):
         elif is_list and {*texts} & {*before}:
             raise argparse.ArgumentError(action, f"{' '.join(texts)!r} is given twice; write one of them")
         elif option in self.given and not is_list and (before != texts or isinstance(action, argparse.BooleanOptionalAction)):
-            behind = f"{' '.join(texts)!r} comes behind {' '.join(before)!r}; " * bool(texts)
+            behind = f"{' '.join(texts)!r} comes behind {' '.join(before)!r}; " if texts else ""
             raise argparse.ArgumentError(action, f"{behind}write one of them")
         self.given[option] = [*before, *texts] if is_list else texts
         return super()._get_values(action, texts)
@@ -94,7 +95,7 @@ class Parser(argparse.ArgumentParser):
         """Returns what is wrong with an option's lack of a value, or with a value, in place of argparse's words."""
         option = fault[1].rpartition("/")[2]
         behind = next((word for before, word in zip(sys.argv, sys.argv[1:]) if before == option and re.match(r"-\d", word)), "")
-        lack = "a value is missing" + f"; write {option}={behind} if it is this one" * bool(behind)
+        lack = "a value is missing" + (f"; write {option}={behind} if it is this one" if behind else "")
         return f"argument {option}: {f'it has no value; leave out {fault[2]}' if fault[2] else lack}"
 
     def error(self, message: str) -> NoReturn:
@@ -105,7 +106,8 @@ class Parser(argparse.ArgumentParser):
         if others and "arguments are required" in message:
             message = f"unrecognized arguments: {others[0]}"  # which may be why
         words = message.partition("unrecognized arguments: ")[2]
-        option, command = words.partition(" ")[0].partition("=")[0], self.prog.removeprefix("hinge ")
+        option = words.partition(" ")[0].partition("=")[0]
+        command = self.prog.removeprefix("hinge ")
         names = self.options()
         is_long = option.startswith("--") and option != "--"
         starts = [name for name in names if is_long and name.startswith(option)]

@@ -19,7 +19,7 @@ from pathlib import Path
 from typing import Iterable, List, Tuple, Union
 
 from hinge.border.files import lines_in
-from hingetulip_words.advice import FAULTS, line_meant
+from hinge.events.forms import line_meant
 
 IS_LOST, IS_TWICE, IS_LATE = "lost", "twice", "late"
 CUT, HOLD, CRASH, SKEW = ACTS = "cut", "hold", "crash", "skew"
@@ -27,6 +27,15 @@ LINE = re.compile(r"(?P<link>\S.* > .*\S) packet (?P<packet>[1-9]\d{0,17}) (?:(?
 TIME = r"\d{1,9}(?:\.\d{1,9})?(?:ms|s)"
 ACT = re.compile(rf"at (?P<moment>{TIME}) (?P<kind>{'|'.join(ACTS)}) (?P<of>\S(?:.*\S)?) (?P<sign>[+-]?)(?P<length>{TIME})")
 LATEST = 3_600_000  # ms that a pipe can delay
+FAULT_ADVICE = (  # what people write, and the line that says it
+    (r"(?:lose|drop) (.*)", r"\1 lost"),
+    (r"(?!packet)(\w+)(?: ?[-=]?> ?| to | )(?!packet)([A-Za-z]\w*) (?:packet )?(\d.*)", r"\1 > \2 packet \3"),
+    (r"(?:up )?(packet \d.*)", r"client > server \1"),
+    (r"down (packet \d.*)", r"server > client \1"),
+    (r"(.* packet \d+) (?:drop|dropped|lose|loss)", r"\1 lost"),
+    (r"(.* packet \d+) (?:duplicated?|double)", r"\1 twice"),
+    (r"(.* packet \d+) (?:late|delay(?:ed)?)(?: by)? (\d+)(?:ms)?", r"\1 late \2ms"),
+)
 NO_FAULT = "not a fault; write `client > server packet 3 lost`, `twice` or `late 80ms`, or `at 1.5s cut server 2s`, `hold`, `crash` or `skew`"
 
 
@@ -53,7 +62,7 @@ class Act:
     seconds: float
 
     def __str__(self) -> str:
-        sign = "+" * (self.kind == SKEW and self.seconds >= 0)
+        sign = "+" if self.kind == SKEW and self.seconds >= 0 else ""
         return f"at {spelled(self.moment)} {self.kind} {self.of} {sign}{spelled(self.seconds)}"
 
 
@@ -84,7 +93,7 @@ def read_fault(line: str) -> Either:
     if match is None and line.startswith("at "):
         return read_act(line)
     if match is None or int(match["ms"] or 0) > LATEST:
-        meant = line_meant(line, FAULTS)
+        meant = line_meant(line, FAULT_ADVICE)
         raise ValueError(f"{line!r}: {f'not a fault; write {meant}' if LINE.fullmatch(meant) else NO_FAULT}")
     return Fault(match["link"], int(match["packet"]), match["kind"] or IS_LATE, int(match["ms"] or 0))
 

@@ -23,7 +23,10 @@ if TYPE_CHECKING:
 T = TypeVar("T")
 DELAYS = (5, 20, 50, 100, 300, 1000)  # ms, of packets that hypothesis draws as late
 LASTING = (0.2, 1.0, 3.0, 10.0)  # s, of acts that it draws
-MOST_TRAINS, MOST_OF_TRAIN, MOST_APART, MOST_ACTS = 3, 8, 12, 2
+MOST_TRAINS = 3
+MOST_OF_TRAIN = 8
+MOST_APART = 12
+MOST_ACTS = 2
 
 
 class FaultyNetwork(Network):
@@ -50,7 +53,7 @@ class FaultyNetwork(Network):
         do = {CUT: self.cut, HOLD: self.hold, CRASH: self.crash, SKEW: self.skew}[act.kind]
         return do(act.of, act.seconds)
 
-    def of_link(self, name: str, kind: str) -> dict[int, int]:
+    def packets_of(self, name: str, kind: str) -> dict[int, int]:
         """Returns a link's packets with faults of this kind, with their delays in ms."""
         faults = () if self.chosen is None else self.chosen.packets
         return {fault.packet: fault.ms for fault in faults if fault.link == name and fault.kind == kind}
@@ -58,7 +61,7 @@ class FaultyNetwork(Network):
     def link(self, near: Host, far: Host, options: Optional[str] = None, **more: Any) -> Link:
         if self.chosen is not None:
             name = f"{getattr(near, 'name', near)} > {getattr(far, 'name', far)}"
-            more.update(loss=Listed(self.of_link(name, IS_LOST)))
+            more.update(loss=Listed(self.packets_of(name, IS_LOST)))
         link = super().link(near, far, options, **more)
         if self.chosen is not None and not float(link.options.settings["plr"]):  # under which no word loses a packet
             link.change(f"{link.options.without('plr')} plr {BY_MODEL}")
@@ -67,7 +70,7 @@ class FaultyNetwork(Network):
     def drawn_of(self, link: Link) -> tuple[Optional[LateOf], Optional[IsTwice]]:
         if self.chosen is None:
             return super().drawn_of(link)
-        late, twice = (self.of_link(link.name, kind) for kind in (IS_LATE, IS_TWICE))
+        late, twice = (self.packets_of(link.name, kind) for kind in (IS_LATE, IS_TWICE))
         return (lambda number: late.get(number, 0)) if late else None, twice.__contains__ if twice else None
 
     def faults_met(self) -> list[Either]:
@@ -79,14 +82,17 @@ class FaultyNetwork(Network):
 
     def unmet(self) -> Faults:
         """Returns the faults whose packets never arrived, and those without effect."""
-        faults, came = Faults() if self.chosen is None else self.chosen, {it.name: it.came for it in self.links.values()}
+        faults = Faults() if self.chosen is None else self.chosen
+        came = {it.name: it.came for it in self.links.values()}
         packets = (it for it in faults.packets if came.get(it.link, 0) < it.packet)
         return Faults(*packets, *(it for it in faults.acts if it not in self.acted or not self.acted[it].met))
 
     def unmet_faults(self) -> list[str]:
         """Returns the faults of missing links, and listed faults whose packets never came."""
-        lines, names = super().unmet_faults(), [it.name for it in self.links.values()]
-        is_drawn, unmet = isinstance(self.chosen, Drawn), self.unmet()
+        lines = super().unmet_faults()
+        names = [it.name for it in self.links.values()]
+        is_drawn = isinstance(self.chosen, Drawn)
+        unmet = self.unmet()
         for fault in unmet.packets:
             if fault.link not in names:
                 lines.append(f"{fault}: there is no such link; there are {', '.join(names) or 'none'}")

@@ -13,10 +13,10 @@ from typing import Callable, Collection, Mapping, NamedTuple, Optional, Sequence
 
 from hinge.command import Fault
 from hinge.foreign_options import OF_LINK, OPTIONS, filled, one_way
-from hingetulip_words.foreign import STRICT, Meant, number
+from hingetulip_words.foreign import STRICT, Meant, amount
 from hingetulip_words.link import LEFT_OUT, Place, corrected, in_full, link_before, read_link
 from hingetulip_words.presets import PRESETS, either_way
-from hingetulip_words.values import SHARES, plain
+from hingetulip_words.values import SHARES, decimal
 
 BOTH = ("--up", "--down")
 ONE_WAY = "it is one way, as in the original; --link is both"
@@ -75,8 +75,8 @@ class Answer(NamedTuple):
     notes: tuple[str, ...] = ()
 
     def text(self) -> str:
-        lines = "; ".join([*[f"write {self.write}"] * bool(self.write), *self.notes])
-        return lines + f" (hinge docs {self.page})" * bool(self.page)
+        lines = "; ".join([*([f"write {self.write}"] if self.write else []), *self.notes])
+        return lines + (f" (hinge docs {self.page})" if self.page else "")
 
 
 WORDS = dict[str, Answer]()
@@ -99,8 +99,9 @@ def of_link(
     """Returns the line that replaces another tool's words, or the reason why no link can; None if the words contain no request."""
     meant = Meant(tool, words)
     options = shlex.join(meant.options())
-    notes = [ONE_WAY] * (options.startswith(("--up ", "--down ")) and not {"--up", "--down"} <= {*options.split()})
-    notes += [f"no link does: {', '.join(meant.left)}"] * bool(meant.left)
+    notes = [ONE_WAY] if options.startswith(("--up ", "--down ")) and not {"--up", "--down"} <= {*options.split()} else []
+    if meant.left:
+        notes.append(f"no link does: {', '.join(meant.left)}")
     if not options:
         return lacking(meant.left) if meant.left else None
     if tool in ("mahimahi", "trickle") and meant.rest:
@@ -130,13 +131,13 @@ def of_ipfw(words: Sequence[str]) -> Optional[Answer]:
             return lacking([text])
         if kind == "pipe" and number_of not in ("1", "2"):
             number_of = "1"  # one of the two of a run
-        lines = [f"{' '.join(pipe or ['pipe', '1'])} config bw 10Mbit/s"] * (kind == "queue")
+        lines = [f"{' '.join(pipe or ['pipe', '1'])} config bw 10Mbit/s"] if kind == "queue" else []
         lines.append(" ".join([kind, number_of, "config", *pipe, in_full(read_link(link, kind))]).strip())
         return Answer(f"hinge run{''.join(f' --line {shlex.quote(line)}' for line in lines)} -- COMMAND", "LINKS")
     if own[:1] == ["sched"]:
         return lacking(own[:1])
-    if "prob" in own[:-1] and (part := number(own[own.index("prob") + 1], "part")) is not None:
-        return Answer(f"hinge run --link 'loss {plain(part)}%' -- COMMAND", "LINKS")
+    if "prob" in own[:-1] and (part := amount(own[own.index("prob") + 1], "part")) is not None:
+        return Answer(f"hinge run --link 'loss {decimal(part)}%' -- COMMAND", "LINKS")
     is_verb = own[:1] and own[0] in ("pipe", "queue", "sched", "add", "show", "list", "delete", "flush")
     verbs = ["list" if word == "show" else word for word in own[2::-1]]
     answer = next((WORDS[word] for word in verbs if word in WORDS), None) if is_verb else None
@@ -148,12 +149,12 @@ def of_pumba(words: Sequence[str]) -> Optional[Answer]:
     kind = next((kind for kind in ("loss-gemodel", "loss", *SHARES, "delay", "rate") if kind in words), None)
     options = [f"--{kind}-percent" if word == "--percent" else word for word in words[1:] if word not in ("netem", kind)]
     if kind is not None:
-        default = ["--time", "100"] * (kind == "delay" and "--time" not in words)
+        default = ["--time", "100"] if kind == "delay" and "--time" not in words else []
         first, *others = Meant("pumba", options).rest or ["NAME"]
         answer = of_link(
             "pumba", [*options, *default], before=CONTAINER % ("NAME" if ":" in first else shlex.quote(first)), behind=""
         )
-        more = (f"the same for {', '.join(others)}, as a run has one container",) * bool(others)
+        more = (f"the same for {', '.join(others)}, as a run has one container",) if others else ()
         return answer and answer._replace(notes=answer.notes + more)
     act = next((act for word, act in (("kill", "kill"), ("stop", "kill"), ("pause", "stop")) if word in words), None)
     length = dict(zip(words, words[1:])).get("--duration", "")
@@ -171,7 +172,7 @@ def of_net(words: Sequence[str]) -> Optional[Answer]:
     if words[0] == "mn":
         link = " ".join(Meant("mn", words).options()[1:2])
         lines = f"FILE has the lines `host h1`, `host h2` and `link h1 h2 {link}`"
-        return Answer("hinge net FILE", "NET", (lines,) * bool(link))
+        return Answer("hinge net FILE", "NET", (lines,) if link else ())
     act = {"down": "cut", "up": "heal"}.get(words[-1]) if len(words) == 4 else None
     return Answer(f"hinge change NAME {act} {words[1]} from {words[2]}", "NET") if act else None
 
@@ -186,7 +187,7 @@ def of_run(words: Sequence[str]) -> Optional[Answer]:
     """Answers link words, or options and a command for `hinge run`, after another word."""
     words = [words[0], *words[2 if words[1:2] == ["run"] else 1 :]]
     link, rest = link_before(words[1:])
-    time = ["--simulated", "--seed", "1"] * words[0].startswith("sim")
+    time = ["--simulated", "--seed", "1"] if words[0].startswith("sim") else []
     if link:
         return Answer(shlex.join(["hinge", "run", *time, "--link", link, "--", *(rest or ["COMMAND"])]), "LINKS")
     if "simul" in words[0] and words[1:] and words[1].endswith(".net"):
@@ -201,7 +202,7 @@ def of_run(words: Sequence[str]) -> Optional[Answer]:
 
 def of_command(words: Sequence[str]) -> Optional[Answer]:
     """Answers a program that needs a link and a server, in the place of a command of hinge."""
-    server = " --server 'iperf3 -s -1'" * ("server" in words and words[0] == "iperf3")
+    server = " --server 'iperf3 -s -1'" if "server" in words and words[0] == "iperf3" else ""
     return Answer(f"hinge run --preset lte{server} -- {shlex.join(words)}", "LIVE") if words[1:] else None
 
 
@@ -229,7 +230,8 @@ def refusal(line: str) -> str:
     from hinge.run.plan_of_options import plan_of
     from hinge.run.settings import RunOptions
 
-    messages, words = io.StringIO(), shlex.split(line.removeprefix("sudo "))
+    messages = io.StringIO()
+    words = shlex.split(line.removeprefix("sudo "))
     try:
         with redirect_stderr(messages):
             run = options_and_command(options(), words[2:]) if words[:2] == ["hinge", "run"] else None
@@ -252,7 +254,8 @@ def answer_of(words: Sequence[str]) -> Optional[Answer]:
 def replacement(words: Sequence[str]) -> Optional[Answer]:
     """Returns the replacement for these words after `hinge`, if known."""
     words = list(words)[words[0] == "sudo" and len(words) > 1 :]
-    link, first = words[0], (words[0].rpartition("/")[2] or words[0]).lower()
+    link = words[0]
+    first = (words[0].rpartition("/")[2] or words[0]).lower()
     words[0] = first
     line = TOOLS[first](words) if first in TOOLS else None
     if first.startswith("--") and (of_comcast := of_link("comcast", words)) and of_comcast.write:
@@ -279,18 +282,24 @@ def of_options(typed: Sequence[tuple[str, str]], given: Mapping[str, Sequence[st
         if words and corrected(words) and not corrected(link):
             return f"{', '.join(dict(typed))}: leave this out, as the link says {words!r}"
     is_idle = any("queue" in link.split() and not re.search(r"/s\b|\bbw\b", link) for link in links)
-    links = [shlex.quote(corrected(link) or link) for link in (f"{'10Mbit/s ' * is_idle}{link}" for link in links)]
-    parts = [f"--link {links[0]}" if links[0] == links[1] else " ".join(f"{way} {link}" for way, link in zip(BOTH, links))] * bool(
-        more
+    links = [shlex.quote(corrected(link) or link) for link in (f"{'10Mbit/s ' if is_idle else ''}{link}" for link in links)]
+    parts = (
+        [f"--link {links[0]}" if links[0] == links[1] else " ".join(f"{way} {link}" for way, link in zip(BOTH, links))]
+        if more
+        else []
     )
-    parts += [f"in place of --preset {name}"] * bool(name)
+    if name:
+        parts.append(f"in place of --preset {name}")
     for option, value in ((option, value) for option, value in typed if option in OPTIONS):
         forms, value = one_way(option, value)
         words = shlex.quote((corrected(value) or value) if forms[0].startswith(("--link", "--up ", "--down ")) else value)
         own = [form for form in forms if {*re.findall(r"(?<!\S)--[\w-]+", form.partition("hinge ")[0])} <= {*names}]
-        meant.left += [f"{option} here"] * (not own)
-        parts += ["; write " * bool(parts and forms[0][0] != "-") + filled(", or ".join(own), words)] * bool(own)
-    notes = [f"write {' '.join(parts)}".replace(" ; ", "; ")] * bool(parts)
-    notes += ["10Mbit/s is an example, as no packet waits without a bandwidth"] * is_idle
+        if not own:
+            meant.left.append(f"{option} here")
+        if own:
+            parts.append(("; write " if parts and forms[0][0] != "-" else "") + filled(", or ".join(own), words))
+    notes = [f"write {' '.join(parts)}".replace(" ; ", "; ")] if parts else []
+    if is_idle:
+        notes.append("10Mbit/s is an example, as no packet waits without a bandwidth")
     notes += [f"no link does: {what}" for what in meant.left] + [f"{what!r} isn't such a value" for what in meant.rest]
     return f"{', '.join(dict(typed))}: {'; '.join(notes)}"

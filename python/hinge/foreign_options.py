@@ -4,6 +4,8 @@ from __future__ import annotations
 
 import re
 
+from hingetulip_words.values import EXTRAS
+
 # Options that people try with `hinge run`, beside those of a link, and what to write, where {0} is the option's value; {time},
 # {number} and {seeds} are that value if it is one, or else an example.
 TABLE = """
@@ -35,18 +37,20 @@ TABLE = """
 """
 ROWS = [row.split(" = ", 1) for row in TABLE.strip().splitlines()]
 OPTIONS = {option: (form, "{" in form) for options, form in ROWS for option in options.split()}
-OF_LINK = """--rate --bandwidth --bw --speed --delay --latency --rtt --jitter --plr --packet-loss --drop --queue --target-bw
---duplicate --corrupt""".split()
+OF_LINK = "--rate --bandwidth --bw --speed --delay --latency --rtt --plr --packet-loss --drop --queue --target-bw".split()
+OF_LINK += [f"--{word}" for word in EXTRAS]
 # The kinds of values that a form may name, each with its pattern and an example.
 KINDS = {"time": (r"\d[\d.]*(ns|us|ms|s|min|h|d)?", "1s"), "number": (r"\d+", "100"), "seeds": (r"\d[\d,-]*", "1-100")}
 
 
 def one_way(option: str, value: str) -> tuple[list[str], str]:
     """Returns the option's alternatives for the direction that a value like up:20ms begins with, and the value without the direction."""
-    form, (way, colon, rest) = OPTIONS[option][0], value.partition(":")
+    form = OPTIONS[option][0]
+    (way, colon, rest) = value.partition(":")
     if colon and way in ("up", "down"):
         form = re.sub(rf"--{'down' if way == 'up' else 'up'}\S+ \S+ ?", "", form).strip()
-        form, value = form.replace("--link ", f"--{way} ").replace("s outage ", f"s {way} outage "), rest
+        form = form.replace("--link ", f"--{way} ").replace("s outage ", f"s {way} outage ")
+        value = rest
     return form.split(", or "), value
 
 

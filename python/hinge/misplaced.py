@@ -145,7 +145,7 @@ def line_for(command: str, kind: str, path: str) -> str:
     form = OF_COMMAND.get(f"{command} {kind}", form)
     name = shlex.quote(path if kind != "program" or "/" in path else f"./{path}")
     line = form.format(name, shlex.quote(os.path.splitext(os.path.basename(path))[0]))
-    return what + f"; write {line}" * bool(line)
+    return what + (f"; write {line}" if line else "")
 
 
 def filled(line: str, words: Sequence[str]) -> str:
@@ -163,7 +163,8 @@ def filled(line: str, words: Sequence[str]) -> str:
 def files_in(command: str, words: Sequence[str]) -> Iterator[tuple[str, str]]:
     """Yields the existing files in a command line, each with the kinds that belong there."""
     option = next((option for option in ("--diff", "--model") if option in words), "")
-    places, before = TAKES.get(f"{command} {option}".rstrip(), "").split(","), ""
+    places = TAKES.get(f"{command} {option}".rstrip(), "").split(",")
+    before = ""
     for word in words:
         if word == "--" or command in ("run", "udp") and not (before.startswith("-") or word.startswith("-")):
             return
@@ -178,11 +179,12 @@ def files_in(command: str, words: Sequence[str]) -> Iterator[tuple[str, str]]:
 
 def in_place(command: str, before: str, word: str) -> str:
     """Returns what to write for a word that isn't a file, where one belongs; an empty text if unknown."""
-    link, kind = corrected(word), kind_of_text(word.encode(errors="replace"))
+    link = corrected(word)
+    kind = kind_of_text(word.encode(errors="replace"))
     if before in OF_OPTIONS:
-        lines = {"--config": f"--line {shlex.quote(word)}" * (kind == "config")}
-        lines["--faults"] = "--faults FILE, with a line `client > server packet 3 lost` in FILE" * (" " in word)
-        lines |= {f"--{way}-trace": f"--{way} {shlex.quote(link or '')}" * bool(link) for way in ("up", "down")}
+        lines = {"--config": (f"--line {shlex.quote(word)}" if kind == "config" else "")}
+        lines["--faults"] = "--faults FILE, with a line `client > server packet 3 lost` in FILE" if " " in word else ""
+        lines |= {f"--{way}-trace": (f"--{way} {shlex.quote(link or '')}" if link else "") for way in ("up", "down")}
         return lines.get(before, "")
     if command in OF_NETS and before == "" and not word.startswith("-") and (command, word) != ("search", "run"):
         beside = f"{word}.net"

@@ -6,7 +6,7 @@ import errno
 import os
 import signal
 import stat
-from contextlib import contextmanager
+from contextlib import contextmanager, suppress
 from enum import Enum
 from pathlib import Path
 from typing import Iterable, Iterator, Mapping, Optional, TextIO, Union
@@ -143,11 +143,9 @@ def unnamed_file(folder: Path) -> Optional[int]:
 def give_name(place: Path, path: Path, beside: Path) -> None:
     """Gives a file its name. The system can do that atomically only for a free name, so a replacement gets another name first, for
     a moment in which only SIGKILL ends this process."""
-    try:
+    with suppress(FileExistsError):
         link(place, path)
         return
-    except FileExistsError:
-        pass
     mask = signal.pthread_sigmask(signal.SIG_BLOCK, signal.valid_signals())
     try:
         link(place, beside)

@@ -22,14 +22,11 @@ if TYPE_CHECKING:
     from hingetulip.aio import Network
 
 MARKS = (
-    (
-        'link(options, back=options, preset=name): the link of a test, as "8Mbit/s 20ms plr 0.05", and that of the'
-        " way back if it is another"
-    ),
+    'link(options, back=options, preset=name): the link of a test, as "8Mbit/s 20ms plr 0.05", and that of the way back if it is another',
     "vary(delay, jitter, phase, drift, skew, duplicates, cuts, one_way_cuts, holds, crashes): what the seed varies in sim_net,"
     " as delay='5..100ms', drift='100ppm'",
     "real(name, ..): what may be real in simulated time, by a part of its name, as real('libpq'); other real calls fail the test",
-    ("simulated(**options): the test runs in a simulated machine of its own, with options of `hinge run`, as" " server=COMMAND"),
+    "simulated(**options): the test runs in a simulated machine of its own, with options of `hinge run`, as server=COMMAND",
 )
 INSIDE = "HINGE_TEST_REPORTS"  # in a simulated machine: the file that the reports of its test go to
 
@@ -51,18 +48,13 @@ def faults_file(path: str) -> str:
 def pytest_addoption(parser: pytest.Parser) -> None:
     group = parser.getgroup("hingetulip")
     group.addoption("--link-seed", type=int, default=1, metavar="N", help="seed of emulated links (default: 1)")
-    group.addoption(
-        "--link-faults", type=faults_file, metavar="FILE", help="the faults of sim_net's links, in the place of their losses"
-    )
+    faults = "the faults of sim_net's links, in the place of their losses"
+    group.addoption("--link-faults", type=faults_file, metavar="FILE", help=faults)
     group.addoption("--link-shrink", action="store_true", help="tell the fewest faults with which a test with sim_net fails")
-    group.addoption(
-        "--link-search",
-        action="store_true",
-        help="look for faults with which a test with sim_net fails, by hypothesis and by seeds",
-    )
-    group.addoption(
-        "--link-runs", type=int, default=60, metavar="N", help="how many runs of each kind --link-search tries (default: 60)"
-    )
+    search = "look for faults with which a test with sim_net fails, by hypothesis and by seeds"
+    group.addoption("--link-search", action="store_true", help=search)
+    runs = "how many runs of each kind --link-search tries (default: 60)"
+    group.addoption("--link-runs", type=int, default=60, metavar="N", help=runs)
     parser.addini("link_start", "when simulated time begins, as 2026-11-30 or 2026-11-30T08:00", default="")
 
 
@@ -96,12 +88,14 @@ def emulated_links(request: pytest.FixtureRequest) -> Generator[list[Emulated], 
     wrong += [f"nobody took an exception: {it}" for link in links for it in link.faults]
     if request.node.stash.get(PASSED, False):  # of links in real time, since those of sim_net were judged with the test
         wrong += [f"{UNMET} {line}" for link in links if not hasattr(link, "is_disturbed") for line in link.unmet()]
-        wrong += [f"{UNMET} the mark link: the test made no link"] * (not links and "link" in own_words(request.node))
+        if not links and "link" in own_words(request.node):
+            wrong.append(f"{UNMET} the mark link: the test made no link")
     if wrong:
         pytest.fail("\n".join(wrong), pytrace=False)
 
 
-LINKS, PASSED = pytest.StashKey["list[Emulated]"](), pytest.StashKey[bool]()
+LINKS = pytest.StashKey["list[Emulated]"]()
+PASSED = pytest.StashKey[bool]()
 TRIED: pytest.StashKey[Trial] = pytest.StashKey()
 UNMET = "what met nothing:"
 
@@ -125,8 +119,10 @@ def udp_path(request: pytest.FixtureRequest, emulated_links: list[Emulated], lin
             there, back = either_way(preset, there, back)
         elif there is None:
             (there, back), own = link_of(request.node), own_words(request.node)
-        address, history = f"127.0.0.1:{server}" if isinstance(server, int) else server, f"link{len(emulated_links) + 1}.history"
-        ways, drawn = (there, there if back is None else back), link_seed if seed is None else seed
+        address = f"127.0.0.1:{server}" if isinstance(server, int) else server
+        history = f"link{len(emulated_links) + 1}.history"
+        ways = (there, there if back is None else back)
+        drawn = link_seed if seed is None else seed
         product = UdpPath(address, *ways, drawn, tmp_path / history, own)
         emulated_links.append(product)
         return product
@@ -259,7 +255,8 @@ def links_of(item: pytest.Item) -> list[str]:
 def pytest_runtest_protocol(item: pytest.Item, nextitem: Optional[pytest.Item]) -> Optional[bool]:
     """Runs a test with the mark or the net `simulated` in a separate machine; inside the machine, runs the test as usual. With
     --link-shrink and --link-search, tests with sim_net run again with other faults."""
-    mark, names = item.get_closest_marker("simulated"), getattr(item, "fixturenames", ())
+    mark = item.get_closest_marker("simulated")
+    names = getattr(item, "fixturenames", ())
     if mark is None and "simulated_net" in names:
         mark = pytest.mark.simulated.mark
     is_in_machine = mark is not None and INSIDE not in os.environ and fault_of(item) is None

@@ -1,4 +1,4 @@
-"""Advises on the words that the program refuses in a configuration line, and on the lines of nets and timelines."""
+"""Advises on the words that the program refuses in a configuration line."""
 
 from __future__ import annotations
 
@@ -6,9 +6,9 @@ import re
 from typing import Optional, Sequence
 
 from hingetulip_words.values import EXAMPLES, EXTRAS, FACTOR, FIELD_BITS, FORMS, PER_SECOND
-from hingetulip_words.values import Advice, fault_of, mask, mask_bits, wrong_form
+from hingetulip_words.values import Advice, value_fault, mask_advice, mask_bits, wrong_form
 
-OPTIONS = {  # the options of a pipe and a queue
+OPTIONS_OF = {  # the options of a pipe and a queue
     "pipe": ["bw", "delay", "queue", "plr", "buckets", "mask"],
     "queue": ["pipe", "weight", "queue", "plr", "buckets", "mask"],
 }
@@ -20,77 +20,17 @@ OTHER_NAMES = {  # the options that other words may mean
     **{"prio": "weight", "netmask": "mask"},
 }
 UNIT = rf"(?i:{FACTOR}{PER_SECOND}|{FACTOR})|ms|KB|Kbytes?"
-ALONE = "kill|stop|cont|restart|crash"  # acts on a single host
-HOST = r"([A-Za-z][\w-]*)"
-ACT = f"cut|heal|skew|{ALONE}"  # acts on hosts
-NET_LINES = (  # patterns of what people write in a net's file, each with the net's own form
-    (r"((?!nemesis).*) for (\d\S*)", r"\1 \2"),
-    (r"(?:after|at) (\S+?)[:,]? (.*)", r"at \1 \2"),
-    (r"(?:nodes|hosts|machines|servers|clients):? ([A-Za-z][\w-]*),? (.+)", r"host \1, and the others each in a line of its own"),
-    (r"(?:node|machine|vertex|container|service|server|client) (.+)", r"host \1"),
-    (r"(?:run|exec|command|cmd) ([A-Za-z].+)", r"host \1, in place of the line `host` that it has"),
-    (r"([A-Za-z]\w*) ([A-Za-z]\w*) (\d+(?:ms|[KMG]bit/s).*)", r"link \1 \2 \3"),
-    (r"(?:edge|connect|cable|wire|path) (.+)", r"link \1"),
-    (r"(\w+) ?<?-+>? ?([A-Za-z]\w*)( .*)?", r"link \1 \2\3"),
-    (r"link (\w[\w-]*?) ?(?:<?-+>?|,| and | to ) ?([A-Za-z][\w-]*)( .*)?", r"link \1 \2\3"),
-    (rf"(\d\S*) ((?:{ACT}|partition|disconnect|isolate|link) .*)", r"at \1 \2"),
-    (rf"((?:{ACT}|partition|disconnect|isolate) .*)", r"at 5s \1"),
-    (r"(at \S+) (?:pause|freeze) (.*)", r"\1 stop \2"),
-    (r"(at \S+) (?:resume|continue|unpause) (.*)", r"\1 cont \2"),
-    (r"(at \S+) (?:start|reboot) (.*)", r"\1 restart \2"),
-    (r"(at \S+) (?:reconnect|rejoin|restore) (.*)", r"\1 heal \2"),
-    (rf"at \S+ ((?:{ACT}) .*) at (\d\S*)", r"at \2 \1"),
-    (r"at (\S+) (?:link )?([\w -]*) down", r"at \1 cut \2"),
-    (r"at (\S+) link (.*) up", r"at \1 heal \2"),
-    (r"at (\S+) (?:partition|disconnect|isolate|split) ([\w ,<>|-]*)", r"at \1 cut \2"),
-    (rf"at (\S+) cut {HOST} \| (.*)", r"at \1 cut \2 from \3"),
-    (rf"at (\S+) (cut|heal) {HOST[:-1]}?) ?(?:<?-+>?|,| and | ) ?(?!from |until ){HOST}( \d\S*)?", r"at \1 \2 \3 from \4\5"),
-    (rf"at (\S+) (?:set|change|delay|rate|bandwidth|link) {HOST} {HOST} (\d.*)", r"at \1 \2 \3 \4"),
-    (rf"(at \S+ (?:{ALONE})) {HOST}(?: and |, ?| ){HOST}( \d\S*)?", r"\1 \2\4, and \1 \3\4 in a line of its own"),
-    (rf"at (\S+) loss {HOST} {HOST} (\d.*)", r"at \1 \2 \3 loss \4"),
-    (r"(?:\w+:|[-{[<]).*", "host NAME, and `link A B 20ms`, each in a line of its own, as a net is neither YAML nor JSON"),
-)
-CHANGES = (  # the same for a timeline
-    (r"(?:at|after) (.*)", r"\1"),
-    (r"(\d\S*?)[:,]? (?:link|change|set|to|->|=>) (.*)", r"\1 \2"),
-    (r"(\d\S*?)[:,] (.*)", r"\1 \2"),
-    (r"(\S+) lossy outage (\S+)", r"\1 outage \2 lossy"),
-    (r"(\S+) ((?:up |down )?outage) for (.*)", r"\1 \2 \3"),
-    (r"(\S+) ((?:up |down )?)(?:down|off|cut|disconnect|outage)", r"\1 \2outage 5s lossy"),
-    (r"(\S+) ((?:up |down )?)(?:off|cut|disconnect) (?:for )?(\d\S*)", r"\1 \2outage \3 lossy"),
-)
-FAULTS = (  # the same for a list of faults
-    (r"(?:lose|drop) (.*)", r"\1 lost"),
-    (r"(?!packet)(\w+)(?: ?[-=]?> ?| to | )(?!packet)([A-Za-z]\w*) (?:packet )?(\d.*)", r"\1 > \2 packet \3"),
-    (r"(?:up )?(packet \d.*)", r"client > server \1"),
-    (r"down (packet \d.*)", r"server > client \1"),
-    (r"(.* packet \d+) (?:drop|dropped|lose|loss)", r"\1 lost"),
-    (r"(.* packet \d+) (?:duplicated?|double)", r"\1 twice"),
-    (r"(.* packet \d+) (?:late|delay(?:ed)?)(?: by)? (\d+)(?:ms)?", r"\1 late \2ms"),
-)
 OPEN = ("none", "off", "no", "nothing", "unlimited", "infinite", "perfect", "open", "unshaped")  # words for a link without limits
 NEAR = 0.65  # the least similarity, from 0 to 1, of a word that the user may mean
 SHOWS_NOTHING = Advice("it shows nothing here", "leave this line out")
 
 
-def line_meant(text: str, forms: Sequence[tuple[str, str]] = NET_LINES) -> str:
-    """Returns a line of a net or timeline in the right form, or an empty text if no form applies.
-
-    `forms` are pairs of a pattern and a replacement, each of which applies to the line that the earlier pairs leave.
-    """
-    line = text
-    for pattern, form in forms:
-        if match := re.fullmatch(pattern, line):
-            line = match.expand(form)
-    return line if line != text else ""
-
-
-def words_of(line: str) -> list[str]:
+def words_before_comment(line: str) -> list[str]:
     """Returns a line's words, without the comment."""
     return re.findall(r"[^ \t\r]+", line.split("#", 1)[0])
 
 
-def first_word(text: str) -> Advice:
+def first_word_advice(text: str) -> Advice:
     """Returns advice on a word in the place of `pipe` or `queue`."""
     if text.lower() in ("pipe", "queue"):
         return Advice("keywords are lower case", f"write {text.lower()}", text.lower())
@@ -143,7 +83,7 @@ def left_out(before: str, text: str) -> Advice:
     if before == "bw":
         return Advice("the name of a device, which this program doesn't have", FORMS["bw"])
     if text.startswith("/"):
-        return mask(before, text)
+        return mask_advice(before, text)
     if text in ("src-ip6", "dst-ip6", "flow-id"):
         return Advice("IPv6 is left out", "write src-ip, dst-ip, src-port, dst-port or proto")
     return Advice("ipfw(8) has it, and this program leaves it out", "leave it and its values out")
@@ -152,7 +92,7 @@ def left_out(before: str, text: str) -> Advice:
 def option_word(kind: str, before: str, text: str, more: Sequence[str] = ()) -> Advice:
     """Returns advice on a word in the place of an option. `before` is the word before it, and `more` lists further words with
     values."""
-    options = OPTIONS.get(kind, [])
+    options = OPTIONS_OF.get(kind, [])
     names = [*options, *more]
     if "=" in text:
         if advice := equation(text, names):
@@ -166,7 +106,7 @@ def option_word(kind: str, before: str, text: str, more: Sequence[str] = ()) -> 
     if "jitter" in more:
         accepted = f"write {', '.join(EXAMPLES[:-1])} or {EXAMPLES[-1]}"
     other = "queue" if kind == "pipe" else "pipe"
-    if text in OPTIONS[other]:
+    if text in OPTIONS_OF[other]:
         return Advice(f"an option of {other}s, and this line is of a {kind}", f"write it in the line of the {other}; {accepted}")
     if text.lower() in options:
         return Advice("keywords are lower case", f"write {text.lower()}", text.lower())
@@ -221,7 +161,7 @@ def advice(words: list[str], number: int, cause: str) -> Advice:
     if place >= start + 2 and "delete" in words[start + 1 : start + 3]:
         return Advice("nothing stands behind a delete", "delete each in a line of its own")
     if place == start:
-        return first_word(text)
+        return first_word_advice(text)
     if place == start + 1:
         return number_word(kind, text)
     if place == start + 2:
@@ -229,5 +169,5 @@ def advice(words: list[str], number: int, cause: str) -> Advice:
     if cause == "left out":
         return left_out(before, text)
     if cause in ("bad number", "out of range"):
-        return fault_of(before, text) or wrong_form(before, text)
+        return value_fault(before, text) or wrong_form(before, text)
     return option_word(kind, before, text)

@@ -5,7 +5,7 @@ from __future__ import annotations
 import re
 from typing import NamedTuple, Optional
 
-from hingetulip_words.advice import advice, words_of
+from hingetulip_words.advice import advice, words_before_comment
 from hingetulip_words.link import Place, corrected, in_full, read_link
 
 FAULT = re.compile(r"word (\d+): (.+)")
@@ -30,7 +30,7 @@ def cause_of(fault: str, words: list[str]) -> Optional[Cause]:
 def explained(line: str, fault: str) -> str:
     """Returns a longer text for a program's fault, such as `word 5 '1Mbps': not a bandwidth; write 1Mbit/s` for `word 5: bad
     number`. A fault that names no word stays the same."""
-    words = words_of(line)
+    words = words_before_comment(line)
     cause = cause_of(fault, words)
     if cause is None:
         return NO_TEXT if fault == "not UTF-8" else fault
@@ -42,7 +42,7 @@ def explained(line: str, fault: str) -> str:
 def replaced(line: str, fault: str) -> Optional[str]:
     """Returns the line with the advised word in the wrong word's place, or a pipe's line for a link's words. Returns None if there
     is no such advice."""
-    words = words_of(line)
+    words = words_before_comment(line)
     cause = cause_of(fault, words)
     if cause is None:
         return None

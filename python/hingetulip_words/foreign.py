@@ -8,7 +8,7 @@ from fractions import Fraction
 from typing import Mapping, Optional, Sequence, Union
 
 from hingetulip_words.foreign_table import TOOLS, Action, Kind
-from hingetulip_words.values import SCALE, SHARES, TIMES, plain, scaled
+from hingetulip_words.values import MORE_SCALES, SHARES, TIMES, decimal, scaled
 
 LISTS = ("toxiproxy", "mn")  # tools whose words are lists
 WRAPPERS = ("mahimahi", "trickle")  # tools that run a command
@@ -16,7 +16,7 @@ STRICT = ("netem", "tbf", "htb", "cake")  # tools whose words contain no names o
 NETEMS = {"rate", "limit", "netem"}  # words that netem has, and no link
 
 NUMBER = r"(?a)(\d{0,99}\.?\d{1,99})([a-z%/]*)"  # at most 99 digits before and after the point, since Python refuses to convert thousands
-SCALES = SCALE | {"t": 10**12, "ki": 2**10, "mi": 2**20, "gi": 2**30}
+SCALES = MORE_SCALES | {"ki": 2**10, "mi": 2**20, "gi": 2**30}
 
 
 def rates(endings: Sequence[str], times: int = 1) -> dict[str, Fraction]:
@@ -24,23 +24,23 @@ def rates(endings: Sequence[str], times: int = 1) -> dict[str, Fraction]:
     return {f"{letter}{ending}": Fraction(scale * times) for letter, scale in SCALES.items() for ending in endings}
 
 
-BITS = rates(("bit", "bps", "bit/s", "bits/s", "b/s", ""))
+BIT_UNITS = rates(("bit", "bps", "bit/s", "bits/s", "b/s", ""))
 SIZES = {"": 1, "b": 1, "k": 1024, "kb": 1024, "m": 1024**2, "mb": 1024**2, "kbit": 128, "mbit": 128 * 1024}
 # For each kind of unit in the table, the typed units and their factors to ms, bit/s, bytes or percent; "" stands for a number without
 # a unit. In tc, `bps` means bytes.
-UNITS: dict[str, Mapping[str, Union[int, Fraction]]] = {
-    "us": {**TIMES, "": Fraction(1, 1000)}, "ms": {**TIMES, "": 1}, "tc": {**BITS, **rates(["bps"], 8)}, "bits": BITS,
-    "kbit": {**BITS, "": 1000}, "mbit": {**BITS, "": 10**6}, "KB": {"": 8000}, "KiB": {"": 8192}, "bytes": SIZES,
+UNIT_SCALES: dict[str, Mapping[str, Union[int, Fraction]]] = {
+    "us": {**TIMES, "": Fraction(1, 1000)}, "ms": {**TIMES, "": 1}, "tc": {**BIT_UNITS, **rates(["bps"], 8)}, "bits": BIT_UNITS,
+    "kbit": {**BIT_UNITS, "": 1000}, "mbit": {**BIT_UNITS, "": 10**6}, "KB": {"": 8000}, "KiB": {"": 8192}, "bytes": SIZES,
     "%": {"%": 1, "": 1}, "part": {"%": 1, "": 100}, "packets": {"": 1},
 }  # fmt: skip
 
 
-def number(text: str, unit: str) -> Optional[Fraction]:
-    """Returns the number in a text in ms, bit/s, bytes or percent; None for other texts. `unit` is a key of UNITS."""
+def amount(text: str, unit: str) -> Optional[Fraction]:
+    """Returns the number in a text in ms, bit/s, bytes or percent; None for other texts. `unit` is a key of UNIT_SCALES."""
     parts = re.fullmatch(NUMBER, text.lower())
     if parts is None:
         return None
-    scale = UNITS[unit].get(parts[2])
+    scale = UNIT_SCALES[unit].get(parts[2])
     if scale is None:
         return None
     if unit == "bits" and re.search("B(/s|ps)$", text):
@@ -127,14 +127,14 @@ class Meant:
     def next_value(self, kind: Kind) -> Optional[str]:
         """Reads the next word as an unsupported value, and returns the word; None if it isn't such a value. A correlation is a
         percentage."""
-        if not self.is_value() or (kind.name == "correlation" and number(self.words[0], "%") is None):
+        if not self.is_value() or (kind.name == "correlation" and amount(self.words[0], "%") is None):
             return None
         return self.words.pop(0)
 
     def read_numbers(self, kind: Kind) -> None:
         """Reads a number, or all numbers of a loss model."""
         while self.is_value():
-            value = number(self.words[0], kind.unit)
+            value = amount(self.words[0], kind.unit)
             if value is None:
                 return
             self.set_property(kind.name, value, self.words.pop(0))
@@ -146,7 +146,7 @@ class Meant:
         while self.words and self.words[0].startswith("--"):
             self.read()
         text = self.words.pop(0) if self.is_value() else ""
-        bandwidth = None if text.isdigit() else number(text, "bits")
+        bandwidth = None if text.isdigit() else amount(text, "bits")
         if bandwidth is not None:
             self.ways[option.removesuffix("-trace")]["bw"] = bandwidth
         elif text:
@@ -175,7 +175,7 @@ class Meant:
         if "bw" in properties:
             words.append(in_units(properties["bw"]))
         if spread > delay:
-            self.leave(f"a jitter of {plain(spread)}ms, which is above the delay")
+            self.leave(f"a jitter of {decimal(spread)}ms, which is above the delay")
             spread = Fraction(0)
         if delay > spread or "delay" in properties:
             words += self.time_words("", delay - spread)
@@ -183,14 +183,14 @@ class Meant:
         if jitter:
             words += self.time_words("jitter ", jitter)
         words += self.queue_words(properties)
-        words += [f"{name} {plain(properties[name])}%" for name in ("loss", *SHARES) if name in properties]
+        words += [f"{name} {decimal(properties[name])}%" for name in ("loss", *SHARES) if name in properties]
         return " ".join(words)
 
     def time_words(self, name: str, ms: Fraction) -> list[str]:
         """Returns the words for a delay or jitter in whole ms, or an empty list, after adding other times to `left`."""
         if ms.denominator == 1:
             return [f"{name}{ms}ms"]
-        self.leave(f"{name or 'delay '}{plain(ms)}ms, as a link has whole milliseconds")
+        self.leave(f"{name or 'delay '}{decimal(ms)}ms, as a link has whole milliseconds")
         return []
 
     def queue_words(self, properties: dict[str, Fraction]) -> list[str]:
@@ -219,7 +219,7 @@ class Meant:
         options = [part for link in links if link[1] for part in link]
         options += self.more
         if len(self.model) > 1:
-            rates = ",".join(plain(rate / 100) for rate in self.model[:4])
+            rates = ",".join(decimal(rate / 100) for rate in self.model[:4])
             options += ["--loss", f"{TOOLS[self.tool].way}:gilbert:{rates}"]
         return options
 

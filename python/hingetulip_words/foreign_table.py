@@ -5,11 +5,15 @@ from __future__ import annotations
 from enum import Enum
 from typing import NamedTuple
 
+from hingetulip_words.values import EXTRAS
+
+# The words of effects that dummynet lacks, in the table's form.
+EXTRA_WORDS = "; ".join(f"{word} = {word}:{example.lstrip('0123456789')}" for word, example in EXTRAS.items())
 # Each row names a tool and the way (direction) of a link that the tool slows, and then the tool's words, each group before `=` and the
 # kinds of its values in their order. A kind is PROPERTY:UNIT, `!NAME` for a value that no link has, `!value` for such a value of which
 # the word is the name, a lone `!` for any number of such values, `-` for a value that doesn't matter, or `>WAY`, which lets the words
 # behind it describe another way.
-TABLE = """
+TABLE = f"""
 netem up; delay latency = delay:us spread:us !correlation; loss drop random = loss:% !correlation; gemodel = model:%; seed = -;
  rate = bw:tc !overhead !cellsize !celloverhead; duplicate = duplicate:% !correlation; limit = queue:packets;
  corrupt = corrupt:% !correlation; reorder gap slot ecn distribution state = !
@@ -30,8 +34,8 @@ wondershaper both; a = -; d = >down bw:kbit; u = >up bw:kbit
 tcset up; rate = bw:bits; delay = delay:ms; delay-distro = spread:ms; loss = loss:%; duplicate = duplicate:%; incoming = >down;
  corrupt = corrupt:%; direction outgoing add change overwrite = ; reordering network port src-network src-port exclude-dst-network = !value
 mn both; bw = bw:mbit; delay = delay:us; jitter = spread:us; loss = loss:%; max_queue_size = queue:packets; link tc = ; use_htb = -
-ours both; rate bandwidth bw speed = bw:bits; delay latency = delay:ms; rtt = rtt:ms; jitter = jitter:ms; plr = loss:part;
- loss packet-loss drop = loss:%; limit queue = queue:packets; target-bw = bw:kbit; duplicate = duplicate:%; corrupt = corrupt:%
+ours both; rate bandwidth bw speed = bw:bits; delay latency = delay:ms; rtt = rtt:ms; plr = loss:part; {EXTRA_WORDS};
+ loss packet-loss drop = loss:%; limit queue = queue:packets; target-bw = bw:kbit
 """  # ours: what people try as options of `hinge run`
 
 

@@ -7,10 +7,10 @@ from enum import Enum
 from fractions import Fraction
 from typing import NamedTuple, Optional, Sequence
 
-from hingetulip_words.advice import OPTIONS, OTHER_NAMES, left_out, missing_value
+from hingetulip_words.advice import OPTIONS_OF, OTHER_NAMES, left_out, missing_value
 from hingetulip_words.foreign import netem_link
-from hingetulip_words.values import EXTRAS, FIELD_BITS, LONGEST_WORD, PERCENT, Advice, fault_of, plain
-from hingetulip_words.wrong_words import DELAY, JITTER, MISSING, MOST_JITTER, OF_RUNS, ONE_WORD, RATE, REORDER, UNIT
+from hingetulip_words.values import EXTRAS, FIELD_BITS, LONGEST_WORD, PERCENT, Advice, value_fault, decimal
+from hingetulip_words.wrong_words import WHOLE_DELAY, JITTER, MISSING, MOST_JITTER, OF_RUNS, ONE_WORD, WHOLE_RATE, REORDER, UNIT
 from hingetulip_words.wrong_words import Context, second_word, wrong_loss, wrong_word
 
 LINE = ("ipfw", "pipe", "config")  # words of a configuration line in front of a link's words
@@ -61,7 +61,7 @@ class Extra(NamedTuple):
         return self.jitter + 1 if self.jitter else 0
 
 
-class Link(NamedTuple):
+class LinkWords(NamedTuple):
     """The content of a link's words."""
 
     options: dict[str, str]  # the values by ipfw's names, in the order of the text
@@ -80,18 +80,18 @@ class LinkParser:
         """Prepares the words before a comment. `kind` is `pipe` or `queue`, and `place` decides which effects may be added."""
         self.kind = kind
         self.place = place
-        self.option_names = [name for name in OPTIONS[kind] if name != "pipe"]
+        self.option_names = [name for name in OPTIONS_OF[kind] if name != "pipe"]
         self.remaining = text.partition("#")[0].split()
         self.options: dict[str, str] = {}
         self.extra = Extra()
         self.typed: dict[str, str] = {}  # each option's words as the user typed them
         self.previous = ""  # the last word of the option before
 
-    def read(self) -> Link:
+    def read(self) -> LinkWords:
         """Returns the link. WordError: a word isn't a link's, or its value is wrong."""
         while self.remaining:
             self.read_option(self.remaining.pop(0))
-        return Link(self.options, self.extra)
+        return LinkWords(self.options, self.extra)
 
     def record(self, name: str, typed: str) -> None:
         """Records an option as read. WordError: the text has this option already."""
@@ -107,7 +107,7 @@ class LinkParser:
 
     def check(self, name: str, text: str, typed: str) -> None:
         """Checks an option's value. WordError: the value is wrong; the error quotes `typed`, the user's text for the option."""
-        if fault := fault_of(name, text):
+        if fault := value_fault(name, text):
             raise WordError(typed, fault)
 
     def following(self) -> str:
@@ -135,10 +135,10 @@ class LinkParser:
             text = self.value_of(word)
             self.check(word, text, f"{word} {text}")
             self.set_option(word, text, f"{word} {text}")
-        elif RATE.fullmatch(word) and "bw" in self.option_names:
+        elif WHOLE_RATE.fullmatch(word) and "bw" in self.option_names:
             self.check("bw", word, word)
             self.set_option("bw", word, word)
-        elif DELAY.fullmatch(word) and "delay" in self.option_names:
+        elif WHOLE_DELAY.fullmatch(word) and "delay" in self.option_names:
             self.check("delay", word, word)
             self.set_option("delay", word, word)
         elif word == "loss":
@@ -159,7 +159,7 @@ class LinkParser:
             raise WordError(typed, Advice("no packet has a checksum here, which would discard it", f"write loss {text}"))
         self.record(word, typed)
         if word == "jitter":
-            if not DELAY.fullmatch(text) or not 1 <= int(text[:-2]) <= MOST_JITTER:
+            if not WHOLE_DELAY.fullmatch(text) or not 1 <= int(text[:-2]) <= MOST_JITTER:
                 raise WordError(typed, Advice("not a jitter", JITTER))
             self.extra = self.extra._replace(jitter=int(text[:-2]))
         else:
@@ -176,7 +176,7 @@ class LinkParser:
         rate = Fraction(share[1]) / 100
         if rate > 1:
             raise WordError(f"loss {text}", Advice("out of range", "a loss is 0% to 100%"))
-        return plain(rate)
+        return decimal(rate)
 
     def fields(self) -> str:
         """Reads the fields of a mask, each with its value, and returns their text. WordError: there is no field, or a value is
@@ -210,7 +210,7 @@ class LinkParser:
         return WordError(*wrong_word(word, context))
 
 
-def read_words(text: str, place: Place, kind: str = "pipe") -> Link:
+def read_words(text: str, place: Place, kind: str = "pipe") -> LinkWords:
     """Returns the content of a link's words, of a `pipe` or a `queue`, in a text of the kind `place`.
 
     WordError: a word isn't a link's in such a text, or repeats another.
@@ -255,7 +255,7 @@ def link_before(words: Sequence[str]) -> tuple[str, list[str]]:
     return "", [*words]
 
 
-def refusal(begun: dict[str, str], changed: dict[str, str], place: str = "{}") -> str:
+def refusal_of_change(begun: dict[str, str], changed: dict[str, str], place: str = "{}") -> str:
     """Returns why a change to the options `changed` is refused, with the right words; an empty text for a permitted change.
 
     A change is refused if it leaves out an option that the link has at its beginning (`begun`). `place` is the text around the
@@ -274,7 +274,7 @@ def in_short(options: dict[str, str]) -> str:
     words = []
     for name, text in options.items():
         if name == "plr":
-            words.append(f"loss {plain(Fraction(text) * 100)}%")
+            words.append(f"loss {decimal(Fraction(text) * 100)}%")
         elif name == "delay" and text.isdigit():
             words.append(f"{text}ms")
         else:
@@ -284,7 +284,7 @@ def in_short(options: dict[str, str]) -> str:
 
 def as_words(name: str, text: str) -> str:
     """Returns an option and its value as a link's words."""
-    if RATE.fullmatch(text) or DELAY.fullmatch(text):
+    if WHOLE_RATE.fullmatch(text) or WHOLE_DELAY.fullmatch(text):
         return text
     return f"{'loss' if PERCENT.fullmatch(text) else name} {text}"
 

@@ -39,11 +39,11 @@ PRESETS = {
     "lan": Preset("1Gbit/s queue 1000", "1Gbit/s queue 1000", "Gigabit Ethernet, whose delay is far below a millisecond"),
 }
 # Each preset, with the names of links that it resembles most.
-OTHER_NAMES = """dialup=modem,isdn edge=2g,gprs,gsm 3g=umts,hspa,hsdpa 4g=mobile,cellular,phone lte=5g,nr dsl=adsl,vdsl,broadband
+OTHER_PRESETS = """dialup=modem,isdn edge=2g,gprs,gsm 3g=umts,hspa,hsdpa 4g=mobile,cellular,phone lte=5g,nr dsl=adsl,vdsl,broadband
 cable=docsis,home fibre=ftth,fios,fiber satellite=starlink,leo,sat geo=viasat,geostationary,vsat
 lossy-wifi=wifi,wi-fi,wlan,wireless,lossy bad=train,terrible,poor,worst lan=ethernet,gigabit,wired,datacenter,datacentre,local"""
 NEAREST = dict[str, str]()  # the presets by these other names
-for entry in OTHER_NAMES.split():
+for entry in OTHER_PRESETS.split():
     nearest, _, names = entry.partition("=")
     NEAREST.update(dict.fromkeys(names.split(","), nearest))
 
@@ -78,7 +78,7 @@ def either_way(name: str, up: Optional[str] = None, down: Optional[str] = None) 
     return up_words, down_words
 
 
-def table() -> str:
+def preset_table() -> str:
     """Returns a table of all presets, in lines of at most 80 columns."""
     rows = [("preset", "up", "down", ""), *((name, *links) for name, links in PRESETS.items())]
     name_width = max(len(name) for name, _, _, _ in rows)

@@ -17,8 +17,14 @@ FORMS = {  # the advice on each option's format
 }
 LONGEST_WORD = 200  # letters; all accepted values are shorter
 FIELD_BITS = {"src-ip": 32, "dst-ip": 32, "src-port": 16, "dst-port": 16, "proto": 8}  # the widths of a mask's fields in bits
+SCALE = {"": 1, "k": 10**3, "m": 10**6, "g": 10**9}  # the factors before a bandwidth's unit
+FACTOR, PER_SECOND = f"[{''.join(SCALE)}]?", "(?:bits?|bytes?)/s"  # the parts of a bandwidth's unit
+MORE_SCALES = SCALE | {"t": 10**12}  # also the factors that people write, and dummynet refuses
 # Patterns that only wrong words need are texts, so that no start compiles them.
-BANDWIDTH = r"(\d+(?:\.\d+)?)([kmgt]?)i?(b|bit|bits|byte|bytes|bps|b/s|bit/sec|bits/sec|bit/s|bits/s|byte/s|bytes/s|byte/sec|)"
+BANDWIDTH = (
+    rf"(\d+(?:\.\d+)?)([{''.join(MORE_SCALES)}]?)i?"
+    "(b|bit|bits|byte|bytes|bps|b/s|bit/sec|bits/sec|bit/s|bits/s|byte/s|bytes/s|byte/sec|)"
+)
 UNITS = "ns=1/1000000 us,µs,usec,usecs=1/1000 ms,msec,msecs,milliseconds=1 s,sec,secs,second,seconds=1000 min,minute,minutes=60000"
 TIMES = dict[str, Fraction]()  # the ms in each unit of time
 for unit in UNITS.split():
@@ -27,8 +33,6 @@ for unit in UNITS.split():
 DELAY = rf"(-?)(\d+(?:\.\d+)?)({'|'.join(TIMES)})"
 ROOM = r"(\d+)(kib|mb|mbyte|mbytes|m|mib|b|byte|bytes|pkt|pkts|packet|packets|p|slots?|k|kb|kbytes?)"
 MOST_KBYTES = 1024  # the greatest queue limit in Kbytes
-SCALE = {"": 1, "k": 10**3, "m": 10**6, "g": 10**9}  # the factors before a bandwidth's unit
-FACTOR, PER_SECOND = f"[{''.join(SCALE)}]?", "(?:bits?|bytes?)/s"  # the parts of a bandwidth's unit
 EXTRAS = {"jitter": "5ms", "duplicate": "1%", "corrupt": "1%"}  # a link's words that dummynet doesn't have, each with an example
 SHARES = tuple(word for word, example in EXTRAS.items() if example.endswith("%"))  # the words with a percentage of packets
 EXAMPLES = ("10Mbit/s", "20ms", "queue 100", "loss 1%", *map(" ".join, EXTRAS.items()))  # an example of each link word
@@ -60,8 +64,8 @@ TAKEN = {  # the format of each option's values, and of the values in a mask
     "buckets": Form(re.compile(NUMBER, re.ASCII), 16, 65_536, "buckets are 16 to 65536"),
     "pipe": Form(re.compile(NUMBER, re.ASCII), 1, 65_535, "pipes are 1 to 65535"),
 }
-BITS = re.compile(NUMBER + r"|0[xX][\da-fA-F]+", re.ASCII)
-TAKEN |= {name: Form(BITS, 0, 2**bits - 1, f"a mask of {name} has at most {bits} bits") for name, bits in FIELD_BITS.items()}
+MASK_BITS = re.compile(NUMBER + r"|0[xX][\da-fA-F]+", re.ASCII)
+TAKEN |= {name: Form(MASK_BITS, 0, 2**bits - 1, f"a mask of {name} has at most {bits} bits") for name, bits in FIELD_BITS.items()}
 
 
 class Advice(NamedTuple):
@@ -72,7 +76,7 @@ class Advice(NamedTuple):
     word: Optional[str] = None  # the word's replacement, if there is one
 
 
-def plain(value: Fraction) -> str:
+def decimal(value: Fraction) -> str:
     """Returns the shortest text for a number, with at most 18 decimal places and without an exponent."""
     text = f"{int(value * 10**18):019d}"
     return f"{text[:-18]}.{text[-18:]}".rstrip("0").rstrip(".")
@@ -90,7 +94,7 @@ def bandwidth(text: str) -> Advice:
     if not parts:
         return Advice("not a bandwidth", FORMS["bw"])
     number, letter, unit = parts[1], parts[2], parts[3]
-    value = Fraction(number) * 1000 ** "_kmgt".index(letter or "_")
+    value = Fraction(number) * MORE_SCALES[letter]
     if not value or value.denominator > 1:
         return Advice("not a bandwidth", FORMS["bw"])
     if "byte" in unit or "B" in text[len(number) + len(letter) :]:
@@ -136,18 +140,18 @@ def room(text: str) -> Advice:
 def loss(text: str) -> Advice:
     """Returns advice on a wrong loss rate: the rate as a fraction, if the text means one."""
     if percentage := PERCENT.fullmatch(text):
-        rate = plain(Fraction(percentage[1]) / 100)
+        rate = decimal(Fraction(percentage[1]) / 100)
         return Advice("a loss rate isn't a percentage", f"write {rate}", rate)
     try:
         value = Fraction(text)
     except (ValueError, ZeroDivisionError):
         return Advice("not a loss rate", FORMS["plr"])
     if value > 1:
-        rate = plain(value / 100)
+        rate = decimal(value / 100)
         return Advice("a loss rate is at most 1", f"write {rate} for {text} %", rate if value <= 100 else None)
     if value < 0:
         return Advice("a loss rate can't be negative", FORMS["plr"])
-    return Advice("not a loss rate", f"write {plain(value)}", plain(value))
+    return Advice("not a loss rate", f"write {decimal(value)}", decimal(value))
 
 
 def mask_bits(text: str, width: int = 32) -> Optional[str]:
@@ -163,7 +167,7 @@ def mask_bits(text: str, width: int = 32) -> Optional[str]:
     return f"0x{all_bits & ~host_bits:0{width // 4}x}"
 
 
-def mask(field: str, text: str) -> Advice:
+def mask_advice(field: str, text: str) -> Advice:
     """Returns advice on the wrong value of a mask's field."""
     if bits := mask_bits(text, FIELD_BITS.get(field, 32)):
         return Advice("a mask is the bits that tell flows apart, and no netmask", f"write {bits}", bits)
@@ -173,7 +177,7 @@ def mask(field: str, text: str) -> Advice:
 READERS: dict[str, Callable[[str], Advice]] = {"bw": bandwidth, "delay": delay, "queue": room, "plr": loss}  # advice by option
 
 
-def number_of(option: str, text: str) -> Fraction:
+def value_number(option: str, text: str) -> Fraction:
     """Returns the number in an option's correct value, in the unit of the option's range."""
     if option == "plr":
         return Fraction(text.rstrip(".") or "0")
@@ -182,7 +186,7 @@ def number_of(option: str, text: str) -> Fraction:
     return Fraction(int(text, 16) if text[:2].lower() == "0x" else int(re.sub(r"\D", "", text)))
 
 
-def fault_of(option: str, text: str) -> Optional[Advice]:
+def value_fault(option: str, text: str) -> Optional[Advice]:
     """Returns advice on an option's value; None if the value is correct."""
     bare = text.rstrip(",;")
     if bare and bare != text:
@@ -202,7 +206,7 @@ def fault_of(option: str, text: str) -> Optional[Advice]:
 def is_in_range(option: str, text: str) -> bool:
     """Returns whether dummynet accepts the number in a value of the right format."""
     most = MOST_KBYTES if option == "queue" and not text.isdigit() else TAKEN[option].most
-    return TAKEN[option].least <= number_of(option, text) <= most
+    return TAKEN[option].least <= value_number(option, text) <= most
 
 
 def wrong_form(option: str, text: str) -> Advice:
@@ -215,5 +219,5 @@ def wrong_form(option: str, text: str) -> Advice:
             return advice
         return Advice("out of range", TAKEN[option].range)
     if option in FIELD_BITS:
-        return mask(option, text)
+        return mask_advice(option, text)
     return Advice("not a number here", FORMS.get(option, "write a number"))

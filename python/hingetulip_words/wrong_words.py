@@ -10,8 +10,8 @@ from hingetulip_words.presets import NEAREST, PRESETS
 from hingetulip_words.values import DELAY as DELAY_WORD
 from hingetulip_words.values import EXTRAS, FACTOR, PER_SECOND, PERCENT, SHARES, TIMES, Advice, wrong_form
 
-RATE = re.compile(rf"\d+{FACTOR}{PER_SECOND}", re.ASCII | re.IGNORECASE)
-DELAY = re.compile(r"\d+ms", re.ASCII)
+WHOLE_RATE = re.compile(rf"\d+{FACTOR}{PER_SECOND}", re.ASCII | re.IGNORECASE)
+WHOLE_DELAY = re.compile(r"\d+ms", re.ASCII)
 LIKE_A_DELAY = f"(?ai){DELAY_WORD}"
 LIKE_ROOM = r"(?ai)\d+(pkts?|packets?|p|slots?|[km]?bytes?|kb|kib|mib)"
 AROUND = r"(\d+)ms(?: ?(?:±|\+/?-) ?| )(\d+)ms"  # a delay and its deviation, in netem's form `20ms 5ms`
@@ -75,7 +75,7 @@ def number_alone(word: str, following: str) -> Wrong:
             word, Advice("a number without a unit", f"write {word}ms for a delay, {word}Mbit/s for a bandwidth or queue {word}")
         )
     joined = word + following
-    if not (RATE.fullmatch(joined) or DELAY.fullmatch(joined)):
+    if not (WHOLE_RATE.fullmatch(joined) or WHOLE_DELAY.fullmatch(joined)):
         joined = wrong_value(joined).word or joined
     return Wrong(f"{word} {following}", ONE_WORD._replace(right=f"write {joined}"))
 
@@ -84,7 +84,7 @@ def wrong_value(word: str) -> Advice:
     """Returns the advice on a word that begins with a digit, but is neither a bandwidth nor a delay in a link's form."""
     parts = [part for part in re.split("[,;]|/(?!s|$)", word) if part]
     if len(parts) > 1:
-        are_ways = any(all(map(form.fullmatch, parts)) for form in (RATE, DELAY))
+        are_ways = any(all(map(form.fullmatch, parts)) for form in (WHOLE_RATE, WHOLE_DELAY))
         return ONE_WAY if are_ways else Advice("blanks alone part the words", f"write {' '.join(parts)}")
     if spread := re.fullmatch(AROUND, word):
         return Advice("a jitter adds to the delay", f"write {around(spread)}")

@@ -5,8 +5,6 @@ default, and HINGETULIP_LIBRARY the library in C. HINGE_LONG=yes tries the long 
 otherwise from this checkout.
 """
 
-from __future__ import annotations
-
 import importlib.util
 import os
 import signal
@@ -49,10 +47,10 @@ def name_what_is_built() -> None:
 def lacking_kernel() -> str:
     """What keeps the tests of simulated time from being tried, or nothing."""
     from hinge.run.system import Missing
-    from hinge.simulated.kernel import found
+    from hinge.simulated.kernel import usable_kernel
 
     try:
-        found()
+        usable_kernel()
     except Missing as missing:
         return str(missing)
     return ""

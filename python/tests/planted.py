@@ -1,7 +1,5 @@
 """Three small protocols in which a bug is planted by its name, as tests of faults find them; without a name they are right."""
 
-from __future__ import annotations
-
 import asyncio
 import struct
 from typing import Optional
@@ -49,7 +47,11 @@ class Sender(Socket):
 
     def __init__(self, bodies: list[bytes], bug: str = "") -> None:
         super().__init__(bug)
-        self.bodies, self.base, self.next, self.end, self.tries = bodies, FIRST, FIRST, FIRST + len(bodies), 0
+        self.bodies = bodies
+        self.base = FIRST
+        self.next = FIRST
+        self.end = FIRST + len(bodies)
+        self.tries = 0
         self.timer: Optional[asyncio.TimerHandle] = None
         self.done = asyncio.get_running_loop().create_future()
 

@@ -1,20 +1,15 @@
 """Runs of pytest with the plugin, and the counts of their last lines."""
 
-from __future__ import annotations
-
 import importlib.util
 import os
 import re
-import shlex
 import subprocess
 import sys
-import tempfile
-import unittest
-from pathlib import Path
 from textwrap import dedent
 from typing import Optional
 
 from simulated_hosts import PROGRAM, TOP
+from with_folder import WithFolder
 
 COMMON = """
 import asyncio
@@ -62,25 +57,13 @@ class Done:
         self.counts = {word: int(count) for count, word in re.findall(r"(\d+) (passed|failed|errors?|skipped|warnings?)", last)}
 
 
-@unittest.skipIf(lacking("pytest"), "no pytest")
-class Runs(unittest.TestCase):
+class Runs(WithFolder):
     def run_pytest(self, body: str, *words: str) -> Done:
-        folder = tempfile.TemporaryDirectory()
-        self.addCleanup(folder.cleanup)
-        file = Path(folder.name) / "test_it.py"
+        file = self.folder / "test_it.py"
+        python = str(TOP / "python")
         file.write_text(COMMON + dedent(body))
-        env = {
-            **os.environ,
-            "DUMMYNET": PROGRAM,
-            "PYTHONPATH": str(TOP / "python"),
-            "PYTHONDONTWRITEBYTECODE": "1",
-            "PYTEST_DISABLE_PLUGIN_AUTOLOAD": "1",
-        }
-        command = [
-            sys.executable,
-            *shlex.split(f"-m pytest -p hinge.pytest_plugin -p no:cacheprovider --basetemp={folder.name}/tmp"),
-            *words,
-            str(file),
-        ]
-        done = subprocess.run(command, capture_output=True, text=True, env=env, cwd=folder.name)
+        own = {"DUMMYNET": PROGRAM, "PYTHONPATH": python, "PYTHONDONTWRITEBYTECODE": "1", "PYTEST_DISABLE_PLUGIN_AUTOLOAD": "1"}
+        options = f"-m pytest -p hinge.pytest_plugin -p no:cacheprovider --basetemp={self.folder}/tmp".split()
+        command = [sys.executable, *options, *words, str(file)]
+        done = subprocess.run(command, capture_output=True, text=True, env={**os.environ, **own}, cwd=self.folder)
         return Done(done.stdout + done.stderr, done.returncode)

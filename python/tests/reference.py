@@ -1,7 +1,5 @@
 """The repository's reference beside the module: its scenarios, and the module's answers in its words."""
 
-from __future__ import annotations
-
 import sys
 from functools import cache
 from pathlib import Path
@@ -19,20 +17,7 @@ from printing import command_text  # noqa: E402
 from scenarios import STYLES  # noqa: E402
 from shaper_cases import histories  # noqa: E402
 
-__all__ = [
-    "NAME_OF",
-    "STYLES",
-    "FastDummynet",
-    "LineFault",
-    "answer",
-    "bad_line",
-    "deliveries",
-    "model",
-    "packets_of",
-    "parse_line",
-    "reply_of",
-    "scenarios",
-]
+__all__ = ["NAME_OF", "STYLES", "FastDummynet", "LineFault", "bad_line", "parse_line"]
 
 SEED, SCENARIOS, CALLS = 35, 200, 45
 REPLIES = {
@@ -66,20 +51,9 @@ def reply_of(fate: hingetulip.Fate) -> model.Reply:
 
 
 def submitted(shaper: hingetulip.Shaper, call: model.Submit) -> model.Reply:
-    t, target = call.packet.tuple, {call.target.kind: call.target.number}
-    return reply_of(
-        shaper.submit(
-            call.moment,
-            call.packet.len,
-            **target,
-            src=t.src,
-            dst=t.dst,
-            proto=t.proto,
-            sport=t.sport,
-            dport=t.dport,
-            word=call.packet.word,
-        )
-    )
+    ends = call.packet.tuple._asdict()
+    target = {call.target.kind: call.target.number}
+    return reply_of(shaper.submit(call.moment, call.packet.len, **target, **ends, word=call.packet.word))
 
 
 def packets_of(calls: Sequence[model.Submit]) -> hingetulip.Packets:
@@ -89,12 +63,8 @@ def packets_of(calls: Sequence[model.Submit]) -> hingetulip.Packets:
         moment=[call.moment for call in calls],
         length=[call.packet.len for call in calls],
         pipe=[call.target.number for call in calls],
-        src=[t.src for t in tuples],
-        dst=[t.dst for t in tuples],
-        proto=[t.proto for t in tuples],
-        sport=[t.sport for t in tuples],
-        dport=[t.dport for t in tuples],
         word=[call.packet.word for call in calls],
+        **{name: [getattr(t, name) for t in tuples] for name in model.FiveTuple._fields},
     )
     for place, call in enumerate(calls):
         packets.kind[place] = call.target.kind == "queue"

@@ -4,21 +4,17 @@ lawful.
 A packet of 1,000 bytes takes 1 ms at 8 Mbit/s; a datagram has 28 bytes more than its data.
 """
 
-from __future__ import annotations
-
 import asyncio
-import subprocess
-import tempfile
 import unittest
-from pathlib import Path
 
 from hingetulip import LineError, Outcome, aio
-from simulated_hosts import PROGRAM, Ends, exchange, network, opened
+from simulated_hosts import Ends, audited, exchange, network, opened
+from with_folder import WithFolder
 
 MS = 10**6  # ns
 
 
-class Moments(unittest.TestCase):
+class Moments(WithFolder):
     def test_after_an_hour(self) -> None:
         with network("bw 8Mbit/s delay 20ms") as net:
 
@@ -148,30 +144,28 @@ class Moments(unittest.TestCase):
             self.assertAlmostEqual(heavy, 30, delta=2)  # one packet of each class more, at the ends of a share
 
     def test_jitter_overtakes_and_copies_come_twice(self) -> None:
-        with tempfile.TemporaryDirectory() as folder:
-            history = Path(folder) / "h"
-            with aio.Network(history=history) as net:
-                one, other = net.host("10.0.0.1"), net.host("10.0.0.2")
-                net.link(
-                    one,
-                    other,
-                    "8Mbit/s 1ms",
-                    jitter=lambda it: {b"0": 10, b"1": 0, b"2": 5}[it.data[:1]],
-                    copies=lambda it: 2 if it.data[:1] == b"1" else 1,
-                )
+        history = self.folder / "h"
+        with aio.Network(history=history) as net:
+            one, other = net.host("10.0.0.1"), net.host("10.0.0.2")
+            net.link(
+                one,
+                other,
+                "8Mbit/s 1ms",
+                jitter=lambda it: {b"0": 10, b"1": 0, b"2": 5}[it.data[:1]],
+                copies=lambda it: 2 if it.data[:1] == b"1" else 1,
+            )
 
-                async def main() -> Ends:
-                    _, there = await other.endpoint(Ends, 7)
-                    transport, _ = await one.endpoint(Ends, remote=("10.0.0.2", 7))
-                    for number in range(3):
-                        transport.sendto(b"%d" % number + bytes(971))
-                    await asyncio.sleep(1)
-                    return there
+            async def main() -> Ends:
+                _, there = await other.endpoint(Ends, 7)
+                transport, _ = await one.endpoint(Ends, remote=("10.0.0.2", 7))
+                for number in range(3):
+                    transport.sendto(b"%d" % number + bytes(971))
+                await asyncio.sleep(1)
+                return there
 
-                got = net.run(main()).got
-            done = subprocess.run([PROGRAM, "audit", history], capture_output=True, text=True)
+            got = net.run(main()).got
         self.assertEqual([(it[0][:1], it[2]) for it in got], [(b"1", 3 * MS), (b"1", 4 * MS), (b"2", 10 * MS), (b"0", 12 * MS)])
-        self.assertRegex(done.stdout, r"^lawful \d+\n$")
+        self.assertRegex(audited(history), r"^lawful \d+\n$")
 
     def test_words_of_jitter_and_duplicates(self) -> None:
         with network("20ms jitter 9ms duplicate 50%", seed=3) as net:

@@ -1,7 +1,5 @@
 """asyncio in simulated time: what can't go on, what is refused, and loops of other kinds."""
 
-from __future__ import annotations
-
 import asyncio
 import errno
 import socket

@@ -1,7 +1,5 @@
 """Effects that a run leaves in modules imported meanwhile, and real calls that are refused or reported."""
 
-from __future__ import annotations
-
 import asyncio
 import faulthandler
 import importlib
@@ -13,7 +11,6 @@ import sys
 import threading
 import time
 import unittest
-from pathlib import Path
 from textwrap import dedent
 from typing import Any, Callable
 from unittest import mock
@@ -23,8 +20,7 @@ import pytest
 from hingetulip import aio
 from hingetulip.aio import simulated
 from hingetulip.aio.refusals import OF_C
-
-TOP = Path(__file__).resolve().parents[2]
+from simulated_hosts import TOP
 
 
 def run_alone(text: str) -> subprocess.CompletedProcess[str]:
@@ -208,7 +204,8 @@ class OfOneThread(unittest.TestCase):
                 return importlib.import_module(name)
 
         def waits(other: Any) -> list[object]:
-            lock, found = copy("_thread").allocate_lock(), [other.time() - time.time(), other.monotonic()]
+            lock = copy("_thread").allocate_lock()
+            found = [other.time() - time.time(), other.monotonic()]
             other.sleep(2)
             found += [lock.acquire(), lock.acquire(timeout=1), copy("select").epoll().poll(1)]
             queues = copy("_queue")

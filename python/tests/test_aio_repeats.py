@@ -1,23 +1,20 @@
 """asyncio in simulated time: two runs of one seed are the same, also in two processes."""
 
-from __future__ import annotations
-
 import asyncio
 import errno
 import os
 import socket
 import subprocess
 import sys
-import tempfile
 import threading
 import time
-import unittest
 from pathlib import Path
 
 from hinge.loss import GilbertElliott
 from hingetulip import RangeError, aio
 from hingetulip.aio.drawn import Drawn
 from simulated_hosts import Ends, exchange, network, opened
+from with_folder import WithFolder
 
 RUN = """
 import sys
@@ -57,7 +54,7 @@ def text_of_run(folder: str, hash_seed: str) -> str:
     return history.read_text()
 
 
-class Repeats(unittest.TestCase):
+class Repeats(WithFolder):
     def test_an_hour_takes_no_time_and_repeats(self) -> None:
         began, found = time.monotonic(), []
         for seed in (1, 1, 2):
@@ -68,8 +65,7 @@ class Repeats(unittest.TestCase):
         self.assertLess(time.monotonic() - began, 3600)
 
     def test_histories_of_processes_are_equal_under_any_hash_seed(self) -> None:
-        with tempfile.TemporaryDirectory() as folder:
-            found = {text_of_run(folder, hash_seed) for hash_seed in ("0", "1", "2", "77")}
+        found = {text_of_run(self.folder, hash_seed) for hash_seed in ("0", "1", "2", "77")}
         self.assertEqual(len(found), 1)
 
     def test_sets_of_tasks_have_one_order(self) -> None:
@@ -184,8 +180,7 @@ class Repeats(unittest.TestCase):
         self.assertIn("10.0.0.1: 65508 bytes, and a datagram has at most 65507: 1 refused", report)
 
     def test_a_host_that_crashes_and_comes_back(self) -> None:
-        """Of a question a second, those of the 2 s without the server get no answer. What was under way to it is
-        lost."""
+        """Of a question a second, those of the 2 s without the server get no answer. What was under way to it is lost."""
 
         async def main(net: aio.Network) -> list[int]:
             one, other = net.hosts["10.0.0.1"], net.hosts["10.0.0.2"]

@@ -1,14 +1,16 @@
-"""All sources of time and chance in Python: each follows the simulated clock or the seed, or TESTING names the limit."""
-
-from __future__ import annotations
+"""All sources of time and chance in Python, which follow the simulated clock or the seed, unless TESTING names the limit; and the clock
+that C code has, with the library of `hinge kernel --clock` and without."""
 
 import ast
+import asyncio
+import ctypes
 import datetime
 import importlib.util
 import os
 import random
 import re
 import secrets
+import shutil
 import subprocess
 import sys
 import time
@@ -16,8 +18,10 @@ import unittest
 import uuid
 from types import ModuleType
 
+from hingetulip import aio
 from hingetulip.aio.border import LIBRARY
 from simulated_hosts import TOP
+from with_folder import WithFolder
 
 CHILD = """
 import ast, asyncio, calendar, datetime, email.utils, os, random, secrets, ssl, sys, tempfile, time, uuid
@@ -86,30 +90,100 @@ def sources(module: ModuleType, pattern: str = "[a-z]") -> set[str]:
 class Sources(unittest.TestCase):
     def test_clocks(self) -> None:
         found = answers(listed(WALL) + listed(GROWING), 1, "1")
-        self.assertEqual({text: 86_410.25 for text in listed(WALL)}, {text: float(found[text]) for text in listed(WALL)})
-        self.assertEqual({text: 10.25 for text in listed(GROWING)}, {text: float(found[text]) for text in listed(GROWING)})
+        assert {text: 86_410.25 for text in listed(WALL)} == {text: float(found[text]) for text in listed(WALL)}
+        assert {text: 10.25 for text in listed(GROWING)} == {text: float(found[text]) for text in listed(GROWING)}
 
     @unittest.skipIf(LIBRARY is None, "no hinge-clock.so")
     def test_numbers_and_names(self) -> None:
         texts = listed(SEED) + listed(OF_NUMPY) * (importlib.util.find_spec("numpy") is not None)
         first, again, other = answers(texts, 3, "1"), answers(texts, 3, "77"), answers(texts, 4, "1")
-        self.assertEqual(first, again)
-        self.assertEqual([], [text for text in texts if first[text] == other[text]])
+        assert first == again
+        assert [] == [text for text in texts if first[text] == other[text]]
 
     def test_no_source_is_missing(self) -> None:
         known = {*PURE.split(), *LIMITS, *re.findall(r"\b(?:time|random|secrets|uuid|os)\.\w+", f"{WALL} {GROWING} {SEED}")}
         all_of = sources(time) | sources(secrets) | sources(uuid, "^(?!os$|sys$)") | sources(os, "rand|time|clock")
-        self.assertEqual(set(), all_of - known)
+        assert set() == all_of - known
         unbound = {name for name in sources(random) if name.rpartition(".")[2] in random.__all__}
-        self.assertEqual({"random.Random", "random.SystemRandom"}, unbound)
+        assert {"random.Random", "random.SystemRandom"} == unbound
         now = {
             f"{kind}.{name}"
             for kind in ("date", "datetime")
             for name in ("today", "now", "utcnow")
             if hasattr(getattr(datetime, kind), name)
         }
-        self.assertEqual(set(), {name for name in now if f"datetime.{name}(" not in WALL})
+        assert set() == {name for name in now if f"datetime.{name}(" not in WALL}
 
     def test_the_page_names_the_limits(self) -> None:
         page = " ".join((TOP / "docs" / "TESTING.md").read_text(encoding="utf-8").split())
-        self.assertEqual([], [name for name in LIMITS.values() if name not in page])
+        assert [] == [name for name in LIMITS.values() if name not in page]
+
+
+ASKED = """
+import asyncio, ctypes, time
+from hingetulip import aio
+
+libc = ctypes.CDLL(None)
+
+class Two(ctypes.Structure):
+    _fields_ = [("seconds", ctypes.c_long), ("parts", ctypes.c_long)]
+
+def gettime(clock):
+    found = Two()
+    assert libc.clock_gettime(clock, ctypes.byref(found)) == 0
+    return found.seconds * 10**9 + found.parts
+
+def of_day():
+    found = Two()
+    assert libc.gettimeofday(ctypes.byref(found), None) == 0
+    return found.seconds * 10**6 + found.parts
+
+async def main():
+    await asyncio.sleep(90.000001)
+    return gettime(0), gettime(1), of_day(), libc.time(None), gettime(2) < 60 * 10**9
+
+real = time.time()
+print(aio.run(main()))
+print(abs(gettime(0) / 1e9 - real) < 60, abs(libc.time(None) - real) < 60)
+"""
+
+
+@unittest.skipUnless(shutil.which("cc"), "no cc")
+class WithClock(WithFolder):
+    def test_c_code_has_the_simulated_time_and_afterwards_the_real_one(self) -> None:
+        """By the clock that HINGE_CLOCK names, else one that is built here."""
+        made = os.environ.get("HINGE_CLOCK") or f"{self.folder}/hinge-clock.so"
+        if not os.environ.get("HINGE_CLOCK"):
+            flags = ["-std=c17", "-O2", "-Wall", "-Wextra", "-Werror", "-shared", "-fPIC"]
+            subprocess.run(["cc", *flags, *(TOP / "hosts").glob("clock*.c"), "-o", made], check=True)
+        env = {**os.environ, "HINGE_CLOCK": made, "PYTHONPATH": str(TOP / "python"), "PYTHONDONTWRITEBYTECODE": "1"}
+        asked = [sys.executable, TOP / "python" / "hinge" / "__main__.py", "kernel", "--clock"]
+        clock = subprocess.run(asked, env=env, stdout=subprocess.PIPE, text=True, check=True).stdout.strip()
+        done = subprocess.run([sys.executable, "-c", ASKED], env={**env, "LD_PRELOAD": clock}, capture_output=True, text=True)
+        assert done.stderr == ""
+        assert done.stdout.splitlines() == ["(1700000090000001000, 90000001000, 1700000090000001, 1700000090, True)", "True True"]
+
+
+@unittest.skipIf(LIBRARY is None or importlib.util.find_spec("OpenSSL") is None, "no hinge-clock.so or no python3-openssl")
+class ClockOfOpenSSL(unittest.TestCase):
+    def test_a_timer_of_dtls_runs_in_simulated_time(self) -> None:
+        from OpenSSL import SSL
+        from OpenSSL._util import ffi
+
+        def left(asker: SSL.Connection) -> float:
+            parts = (ctypes.c_long * 2)()
+            ctypes.CDLL("libssl.so.3").SSL_ctrl(
+                ctypes.c_void_p(int(ffi.cast("uintptr_t", asker._ssl))), 73, ctypes.c_long(0), parts
+            )
+            return parts[0] + parts[1] / 1e6
+
+        async def main() -> list[float]:
+            asker = SSL.Connection(SSL.Context(SSL.DTLS_METHOD))
+            asker.set_connect_state()
+            with self.assertRaises(SSL.WantReadError):
+                asker.do_handshake()
+            first = left(asker)
+            await asyncio.sleep(0.75)
+            return [first, left(asker)]
+
+        assert [1.0, 0.25] == aio.run(main())

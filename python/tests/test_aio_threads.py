@@ -1,7 +1,5 @@
 """Threads, selectors and long runs in simulated time, and what of the system a run uses beside."""
 
-from __future__ import annotations
-
 import _socket
 import asyncio
 import ctypes
@@ -98,7 +96,10 @@ class Threads(unittest.TestCase):
         return log
 
     def test_locks_queues_events_and_sleeps(self) -> None:
-        queue, simple, event, lock = (Queue[int](), SimpleQueue[int](), threading.Event(), threading.RLock())
+        queue = Queue[int]()
+        simple = SimpleQueue[int]()
+        event = threading.Event()
+        lock = threading.RLock()
 
         def one(log: list[Any]) -> None:
             with lock, lock:
@@ -273,24 +274,22 @@ class Told(unittest.TestCase):
             assert line.startswith("refused, 2 calls: a socket of the system reaches the real network")
 
 
-class LongRuns(unittest.TestCase):
-    def test_timers_of_years(self) -> None:
-        async def main() -> list[float]:
-            moments = []
-            for days in (97, 98, 365, 20_000):
-                await asyncio.sleep(days * 86_400.25)
-                await asyncio.sleep(0.001)
-                moments.append(asyncio.get_running_loop().time())
-            return moments
+def test_timers_of_years() -> None:
+    async def main() -> list[float]:
+        moments = []
+        for days in (97, 98, 365, 20_000):
+            await asyncio.sleep(days * 86_400.25)
+            await asyncio.sleep(0.001)
+            moments.append(asyncio.get_running_loop().time())
+        return moments
 
-        seconds = [97, 195, 560, 20_560]
-        for moment, days in zip(aio.run(main()), seconds):
-            assert days * 86_400.25 == pytest.approx(moment, abs=0.1)
+    seconds = [97, 195, 560, 20_560]
+    for moment, days in zip(aio.run(main()), seconds):
+        assert days * 86_400.25 == pytest.approx(moment, abs=0.1)
 
 
-class Jitter(unittest.TestCase):
-    def test_whole_milliseconds_alone(self) -> None:
-        assert [0, 80, 3_600_000] == [whole(0), whole(80.0), whole(3_600_000)]
-        for delay in (1.5, -1, 3_600_001):
-            with pytest.raises(ValueError, match="jitter returned .* whole milliseconds"):
-                whole(delay)
+def test_whole_milliseconds_alone() -> None:
+    assert [0, 80, 3_600_000] == [whole(0), whole(80.0), whole(3_600_000)]
+    for delay in (1.5, -1, 3_600_001):
+        with pytest.raises(ValueError, match="jitter returned .* whole milliseconds"):
+            whole(delay)

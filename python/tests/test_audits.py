@@ -1,21 +1,17 @@
 """Audits of histories by hand and of those that the module writes, against `dummynet audit`."""
 
-from __future__ import annotations
-
 import io
-import os
 import pickle
 import subprocess
 import tempfile
 import unittest
-from pathlib import Path
 
 import hingetulip
 from hingetulip import HISTORY_LIMIT, Audit, ClosedError, HistoryError, InUseError, RangeError, Service, Verdict, audit, audits
 from hingetulip.recorded import RecordedShaper
+from simulated_hosts import PROGRAM
+from with_folder import WithFolder
 
-TOP = Path(__file__).resolve().parents[2]
-PROGRAM = Path(os.environ.get("DUMMYNET", TOP / "release" / "dummynet"))
 LAWFUL = b"""\
 dummynet-history,3
 c,0,configure,pipe 1 config bw 8000000bit/s
@@ -144,30 +140,28 @@ class Parts(unittest.TestCase):
         self.assertEqual((type(again), str(again), again.record), (HistoryError, str(fault), 7))
 
 
-class Recorded(unittest.TestCase):
+class Recorded(WithFolder):
     def test_a_recorded_shaper(self) -> None:
-        with tempfile.TemporaryDirectory() as folder:
-            path = Path(folder) / "h"
-            with RecordedShaper(path, seed=1) as shaper:
-                self.assertEqual(shaper.audit(), Verdict(0, None))
-                shaper.configure("pipe 1 config bw 8Mbit/s plr 0.5")
-                for moment in range(300):
-                    shaper.submit(moment, 1000, pipe=1)
-                self.assertEqual(shaper.audit(), Verdict(301, None))
-                shaper.collect(10**9)
-            self.assertEqual(shaper.audit(), Verdict(302, None))
-            text = path.read_bytes()
-            self.assertEqual(by_program(text), "lawful 302")
-            path.write_bytes(text.replace(b"r,configured", b"r,deleted"))
-            self.assertEqual(shaper.audit(), Verdict(302, 0))
+        path = self.folder / "h"
+        with RecordedShaper(path, seed=1) as shaper:
+            self.assertEqual(shaper.audit(), Verdict(0, None))
+            shaper.configure("pipe 1 config bw 8Mbit/s plr 0.5")
+            for moment in range(300):
+                shaper.submit(moment, 1000, pipe=1)
+            self.assertEqual(shaper.audit(), Verdict(301, None))
+            shaper.collect(10**9)
+        self.assertEqual(shaper.audit(), Verdict(302, None))
+        text = path.read_bytes()
+        self.assertEqual(by_program(text), "lawful 302")
+        path.write_bytes(text.replace(b"r,configured", b"r,deleted"))
+        self.assertEqual(shaper.audit(), Verdict(302, 0))
 
     def test_the_history_of_a_service(self) -> None:
-        with tempfile.TemporaryDirectory() as folder:
-            path = Path(folder) / "h"
-            with Service(2) as service:
-                service.history(path)
-                service.callers[0].configure("pipe 1 config bw 8Mbit/s")
-                service.callers[1].submit(0, 1000, pipe=1)
-                service.callers[1].show()
-            with open(path, "rb") as file:
-                self.assertEqual(hingetulip.audit(file), Verdict(3, None))
+        path = self.folder / "h"
+        with Service(2) as service:
+            service.history(path)
+            service.callers[0].configure("pipe 1 config bw 8Mbit/s")
+            service.callers[1].submit(0, 1000, pipe=1)
+            service.callers[1].show()
+        with open(path, "rb") as file:
+            self.assertEqual(hingetulip.audit(file), Verdict(3, None))

@@ -3,8 +3,6 @@
 A packet of 1,000 bytes takes 1 ms at 8 Mbit/s.
 """
 
-from __future__ import annotations
-
 import unittest
 from array import array
 from concurrent.futures import ThreadPoolExecutor
@@ -24,18 +22,19 @@ class Calls(unittest.TestCase):
 
     def test_reserve(self) -> None:
         self.shaper.configure("queue 3 config pipe 1 mask dst-port 0xffff")
-        self.assertFalse(self.shaper.reserve(pipe=1))
-        self.assertTrue(self.shaper.reserve(pipe=9), "nothing is configured, so no room is needed")
+        assert not self.shaper.reserve(pipe=1)
+        assert self.shaper.reserve(pipe=9), "nothing is configured, so no room is needed"
         self.shaper.submit(0, 1000, pipe=1)
         self.shaper.submit(0, 1000, queue=3, dport=5)
-        self.assertEqual(
-            [True, True, False],
-            [self.shaper.reserve(pipe=1, src=7), self.shaper.reserve(queue=3, dport=5), self.shaper.reserve(queue=3, dport=6)],
-        )
-        self.assertEqual(
-            [FlowStatus(0, None, 1, 0, 0, 0, 0, 0, 0, 0, 0, 0, 1, 0), FlowStatus(1, 3, 1, 0, 0, 0, 0, 5, 0, 0, 0, 0, 1, 0)],
-            self.shaper.show(),
-        )
+        assert [True, True, False] == [
+            self.shaper.reserve(pipe=1, src=7),
+            self.shaper.reserve(queue=3, dport=5),
+            self.shaper.reserve(queue=3, dport=6),
+        ]
+        assert [
+            FlowStatus(0, None, 1, 0, 0, 0, 0, 0, 0, 0, 0, 0, 1, 0),
+            FlowStatus(1, 3, 1, 0, 0, 0, 0, 5, 0, 0, 0, 0, 1, 0),
+        ] == self.shaper.show()
         for given, error in (
             ({}, TypeError),
             ({"pipe": 1, "queue": 1}, TypeError),
@@ -52,20 +51,20 @@ class Calls(unittest.TestCase):
         for _ in range(3):
             self.shaper.submit(0, 1000, queue=3, src=0x0A000001, dst=2, proto=17, sport=4, dport=5)
         self.shaper.submit(0, 500, pipe=1)
-        self.assertEqual(
-            [FlowStatus(0, 3, 1, 1, 0, 17, 0, 1, 2, 2000, 0, 0, 1, 0), FlowStatus(1, None, 1, 0, 0, 0, 0, 0, 0, 0, 0, 0, 1, 0)],
-            self.shaper.show(),
-        )
+        assert [
+            FlowStatus(0, 3, 1, 1, 0, 17, 0, 1, 2, 2000, 0, 0, 1, 0),
+            FlowStatus(1, None, 1, 0, 0, 0, 0, 0, 0, 0, 0, 0, 1, 0),
+        ] == self.shaper.show()
         self.shaper.configure("queue 3 delete")
-        self.assertEqual((0, 0, 1, 2), self.shaper.show()[0][-6:-4] + self.shaper.show()[0][-2:])
+        assert (0, 0, 1, 2) == self.shaper.show()[0][-6:-4] + self.shaper.show()[0][-2:]
 
     def test_lists_that_outgrow_their_room(self) -> None:
         self.shaper.configure("pipe 1 config mask src-ip 0xffff")
         for count in (64, 65, 1000):
             fates = self.shaper.submit_many(Packets(count, moment=0, length=1, pipe=1, src=range(count)))
-            self.assertEqual(list(range(count)), list(fates.flow))
-            self.assertEqual(count, len(self.shaper.show()))
-            self.assertEqual(list(fates.packet), [delivery.packet for delivery in self.shaper.collect(0)])
+            assert list(range(count)) == list(fates.flow)
+            assert count == len(self.shaper.show())
+            assert list(fates.packet) == [delivery.packet for delivery in self.shaper.collect(0)]
 
     def test_words_follow_from_the_seed(self) -> None:
         told = []
@@ -78,10 +77,10 @@ class Calls(unittest.TestCase):
                         list(shaper.submit_many(Packets(100, moment=0, length=1, pipe=1)).outcome),
                     )
                 )
-        self.assertEqual(told[0], told[1])
-        self.assertNotEqual(told[0], told[2])
+        assert told[0] == told[1]
+        assert told[0] != told[2]
         for outcomes in told[0]:
-            self.assertTrue(25 < outcomes.count(Outcome.LOST) < 75)
+            assert 25 < outcomes.count(Outcome.LOST) < 75
 
     def test_a_shaper_for_each_thread(self) -> None:
         def told(number: int) -> list[Delivery]:
@@ -92,7 +91,7 @@ class Calls(unittest.TestCase):
                 return shaper.collect(2**62)
 
         with ThreadPoolExecutor(4) as pool:
-            self.assertEqual([told(number) for number in range(4)], list(pool.map(told, range(4))))
+            assert [told(number) for number in range(4)] == list(pool.map(told, range(4)))
 
     def test_a_call_in_the_midst_of_another_raises(self) -> None:
         class Meddling:
@@ -119,7 +118,7 @@ class Calls(unittest.TestCase):
                 shaper.submit(Meddling(call), 1000, pipe=1)  # type: ignore[arg-type]
             with self.assertRaises(InUseError):
                 shaper.advance(Meddling(call))  # type: ignore[arg-type]
-        self.assertEqual(Fate(Outcome.QUEUED, 3, 0, 0), shaper.submit(3, 1000, pipe=1))
+        assert Fate(Outcome.QUEUED, 3, 0, 0) == shaper.submit(3, 1000, pipe=1)
 
     def test_threads_that_share_a_shaper_get_true_answers_or_an_error(self) -> None:
         shaper, refused = self.shaper, []
@@ -137,7 +136,7 @@ class Calls(unittest.TestCase):
             shaper.configure(f"pipe {number} config")
         with ThreadPoolExecutor(4) as pool:
             told = sorted(packet for packets in pool.map(submitted, range(1, 5)) for packet in packets)
-        self.assertEqual(list(range(8000 - len(refused))), told)
+        assert list(range(8000 - len(refused))) == told
 
     def test_no_rule_and_a_second_beginning(self) -> None:
         for rule in (2, 2**32, -1):
@@ -145,56 +144,47 @@ class Calls(unittest.TestCase):
                 Shaper(rule=rule)  # type: ignore[arg-type]
         self.shaper.submit(5, 1000, pipe=1)
         self.shaper.__init__()  # type: ignore[misc]
-        self.assertEqual([], self.shaper.show())
+        assert [] == self.shaper.show()
 
     def test_a_line_in_bytes_of_any_kind(self) -> None:
         for line in (b"pipe 2 config", bytearray(b"pipe 3 config"), memoryview(b"pipe 4 config")):
             self.shaper.configure(line)
-        self.assertEqual([Outcome.QUEUED] * 3, [self.shaper.submit(0, 1, pipe=pipe).outcome for pipe in (2, 3, 4)])
-
-
-class Batches(unittest.TestCase):
-    def setUp(self) -> None:
-        self.shaper = Shaper()
-        self.addCleanup(self.shaper.close)
-        self.shaper.configure(LINE)
+        assert [Outcome.QUEUED] * 3 == [self.shaper.submit(0, 1, pipe=pipe).outcome for pipe in (2, 3, 4)]
 
     def test_columns(self) -> None:
         packets = Packets(3, moment=array("Q", [0, 0, MS]), length=1000, pipe=1, word=0)
         fates = self.shaper.submit_many(packets)
-        self.assertEqual(
-            ([0, 0, MS], [0, 0, 0], [0, 1, 2], [0, 0, 0]), tuple(map(list, (fates.at, fates.flow, fates.packet, fates.outcome)))
+        assert ([0, 0, MS], [0, 0, 0], [0, 1, 2], [0, 0, 0]) == tuple(
+            map(list, (fates.at, fates.flow, fates.packet, fates.outcome))
         )
         taken = self.shaper.collect_many(22 * MS)
-        self.assertEqual(
-            ([21 * MS, 22 * MS], [0, 1], [0, 0], [0, MS]), tuple(map(list, (taken.due, taken.packet, taken.flow, taken.start)))
-        )
-        self.assertEqual(["<Packets: 3>", "<Fates: 3>", "<Deliveries: 2>"], list(map(repr, (packets, fates, taken))))
+        assert ([21 * MS, 22 * MS], [0, 1], [0, 0], [0, MS]) == tuple(map(list, (taken.due, taken.packet, taken.flow, taken.start)))
+        assert ["<Packets: 3>", "<Fates: 3>", "<Deliveries: 2>"] == list(map(repr, (packets, fates, taken)))
         packets.moment[:] = array("Q", [30 * MS] * 3)
         packets.length[2] = 500
-        self.assertEqual([0, 0, 2], list(self.shaper.submit_many(packets).outcome))
+        assert [0, 0, 2] == list(self.shaper.submit_many(packets).outcome)
 
     def test_a_sequence(self) -> None:
         fates = self.shaper.submit_many(Packets(3, moment=0, length=1000, pipe=1))
-        self.assertEqual([Fate(Outcome.QUEUED, 0, 0, 1), Fate(Outcome.FULL, 0, 0, None)], fates[1:])
-        self.assertEqual((fates[2], fates[0]), (fates[-1], fates[-3]))
-        self.assertEqual(list(fates), [fates[0], *fates[1:]])
+        assert [Fate(Outcome.QUEUED, 0, 0, 1), Fate(Outcome.FULL, 0, 0, None)] == fates[1:]
+        assert (fates[2], fates[0]) == (fates[-1], fates[-3])
+        assert list(fates) == [fates[0], *fates[1:]]
         for place in (3, -4):
             self.assertRaises(IndexError, fates.__getitem__, place)
         taken = self.shaper.collect_many(21 * MS)
-        self.assertIsInstance(taken, Deliveries)
-        self.assertEqual([Delivery(21 * MS, 0, 0, 0)], list(taken))
+        assert isinstance(taken, Deliveries)
+        assert [Delivery(21 * MS, 0, 0, 0)] == list(taken)
 
     def test_nothing(self) -> None:
-        self.assertEqual([], list(self.shaper.submit_many(Packets(0, moment=0, length=1, pipe=1))))
-        self.assertEqual([], list(self.shaper.collect_many(0)))
+        assert [] == list(self.shaper.submit_many(Packets(0, moment=0, length=1, pipe=1)))
+        assert [] == list(self.shaper.collect_many(0))
 
     def test_a_packet_that_is_not_answered(self) -> None:
         packets = Packets(3, moment=0, length=[1000, 0, 1000], pipe=1)
         with self.assertRaises(RangeError) as raised:
             self.shaper.submit_many(packets)
-        self.assertEqual([Fate(Outcome.QUEUED, 0, 0, 0)], list(raised.exception.fates or ()))
-        self.assertEqual(1, self.shaper.show()[0].started + self.shaper.show()[0].queued)
+        assert [Fate(Outcome.QUEUED, 0, 0, 0)] == list(raised.exception.fates or ())
+        assert 1 == self.shaper.show()[0].started + self.shaper.show()[0].queued
 
     def test_values_that_do_not_fit(self) -> None:
         for values in (dict(moment=-1), dict(length=65536), dict(src=[0, 2**32, 0]), dict(proto=256)):

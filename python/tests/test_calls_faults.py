@@ -1,7 +1,5 @@
 """What the calls of the module refuse, and how the library is found."""
 
-from __future__ import annotations
-
 import copy
 import os
 import pickle
@@ -9,10 +7,10 @@ import subprocess
 import sys
 import unittest
 from pathlib import Path
-from tempfile import TemporaryDirectory
 
 import hingetulip
 from hingetulip import LineError, Packets, RangeError, Shaper
+from with_folder import WithFolder
 
 LINE = "pipe 1 config bw 8Mbit/s delay 20ms queue 1"
 SOURCES = Path(hingetulip.__file__).resolve().parent
@@ -34,7 +32,7 @@ class Faults(unittest.TestCase):
             ),
             (
                 "queue 1 config weight 3",
-                "word 1 'queue': the queue's line names no pipe; write queue 1 config pipe 1 .., in" " 'queue 1 config weight 3'",
+                "word 1 'queue': the queue's line names no pipe; write queue 1 config pipe 1 .., in 'queue 1 config weight 3'",
                 "needs a pipe",
                 1,
             ),
@@ -110,7 +108,7 @@ class Faults(unittest.TestCase):
             self.assertRaises(TypeError, copied, self.shaper)
 
 
-class Finding(unittest.TestCase):
+class Finding(WithFolder):
     def run_at(self, place: Path, **variables: str) -> subprocess.CompletedProcess[str]:
         """Imports the module that lies in a folder, and prints where its library was found."""
         kept = {name: value for name, value in os.environ.items() if name not in ("HINGETULIP_LIBRARY", "PYTHONPATH")}
@@ -123,16 +121,15 @@ class Finding(unittest.TestCase):
         )
 
     def test_places(self) -> None:
-        with TemporaryDirectory() as prefix:
-            top = Path(prefix).resolve()
-            module = top / "lib" / "python" / "hingetulip"
-            module.mkdir(parents=True)
-            for source in SOURCES.glob("*.py"):
-                (module / source.name).write_bytes(source.read_bytes())
-            done = self.run_at(module.parent, HINGETULIP_LIBRARY=str(top / "none.so"))
-            self.assertIn("none.so", done.stderr)
-            self.assertIn("HINGETULIP_LIBRARY can name it", done.stderr)
-            for place in (top / "lib" / "libhingetulip.so", top / "lib" / "libhingetulip.so.1", module / "libhingetulip.so"):
-                place.symlink_to(Path(hingetulip.LIBRARY).resolve())
-                done = self.run_at(module.parent)
-                self.assertEqual((f"{place}\n", ""), (done.stdout, done.stderr))
+        top = self.folder.resolve()
+        module = top / "lib" / "python" / "hingetulip"
+        module.mkdir(parents=True)
+        for source in SOURCES.glob("*.py"):
+            (module / source.name).write_bytes(source.read_bytes())
+        done = self.run_at(module.parent, HINGETULIP_LIBRARY=str(top / "none.so"))
+        self.assertIn("none.so", done.stderr)
+        self.assertIn("HINGETULIP_LIBRARY can name it", done.stderr)
+        for place in (top / "lib" / "libhingetulip.so", top / "lib" / "libhingetulip.so.1", module / "libhingetulip.so"):
+            place.symlink_to(Path(hingetulip.LIBRARY).resolve())
+            done = self.run_at(module.parent)
+            self.assertEqual((f"{place}\n", ""), (done.stdout, done.stderr))

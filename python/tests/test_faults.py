@@ -1,18 +1,15 @@
 """Faults that are chosen: their lines, what they do to packets, and the bugs that they find, each by the fewest."""
 
-from __future__ import annotations
-
 import asyncio
-import tempfile
 import time
 import unittest
-from pathlib import Path
 from random import Random
 from typing import Awaitable, Callable, Optional
 
 from planted import Adder, Asker, Receiver, Sender
 from pytest_runs import Runs, lacking
 from simulated_hosts import Ends
+from with_folder import WithFolder
 
 from hinge.fault_lines import Drawn, Fault, Faults, read_faults
 from hinge.faults import FaultyNetwork, run, some_faults
@@ -94,16 +91,15 @@ class Planted(unittest.TestCase):
             self.assertIsNone(least("", protocol))
 
 
-class Lines(unittest.TestCase):
+class Lines(WithFolder):
     def test_a_file_reads_back(self) -> None:
         lines = ("a > b packet 3 lost", "10.0.0.2 > b packet 1 twice", "b > a packet 12 late 80ms")
-        with tempfile.TemporaryDirectory() as folder:
-            path = Path(folder) / "link.faults"
-            path.write_text(f"# of a test\n\n{Faults(*lines)}  a > b packet 4 lost  # one more\n")
-            faults = read_faults(path)
-            path.write_text("a > b packet 3 late\n")
-            with self.assertRaisesRegex(ValueError, "link.faults line 1: 'a > b packet 3 late': not a fault; write "):
-                read_faults(path)
+        path = self.folder / "link.faults"
+        path.write_text(f"# of a test\n\n{Faults(*lines)}  a > b packet 4 lost  # one more\n")
+        faults = read_faults(path)
+        path.write_text("a > b packet 3 late\n")
+        with self.assertRaisesRegex(ValueError, "link.faults line 1: 'a > b packet 3 late': not a fault; write "):
+            read_faults(path)
         self.assertEqual(faults, (*Faults(*lines), Fault("a > b", 4, "lost")))
         self.assertEqual(eval(repr(faults)), faults)
 
@@ -237,11 +233,10 @@ class OfTests(Runs):
         self.assertEqual(done.counts, {"failed": 1}, done.text)
         least_lines = done.text.partition(" least faults ")[2].splitlines()[1:4]
         self.assertRegex("\n".join(least_lines), r"^(10\.0\.0\.\d > 10\.0\.0\.\d packet \d+ lost\n?){3}$")
-        with tempfile.TemporaryDirectory() as folder:
-            path = Path(folder) / "link.faults"
-            path.write_text("".join(f"{line}\n" for line in least_lines) + "b > a packet 1 twice\n")
-            again = self.run_pytest(self.BODY, f"--link-faults={path}")
-            absent = self.run_pytest(self.BODY, f"--link-faults={folder}/none")
+        path = self.folder / "link.faults"
+        path.write_text("".join(f"{line}\n" for line in least_lines) + "b > a packet 1 twice\n")
+        again = self.run_pytest(self.BODY, f"--link-faults={path}")
+        absent = self.run_pytest(self.BODY, f"--link-faults={self.folder}/none")
         self.assertRegex(absent.text, r"error: argument --link-faults: .*No such file or directory: '\S+/none'")
         self.assertEqual(again.counts, {"failed": 1}, again.text)
         self.assertIn(f"fault: {least_lines[0]}\nfault: ", again.text)

@@ -1,7 +1,5 @@
 """The module and the crate for cargo against hingetulip.h: structs, numbers and functions are those of the header."""
 
-from __future__ import annotations
-
 import ctypes
 import re
 import unittest
@@ -10,8 +8,8 @@ from pathlib import Path
 import hingetulip
 from hingetulip import audits, errors, layout, library
 from reference import NAME_OF
+from simulated_hosts import TOP
 
-TOP = Path(__file__).resolve().parents[2]
 INCLUDE = TOP / "crates" / "hingetulip_c" / "include"
 HEADER, SERVICE_HEADER = ((INCLUDE / f"{name}.h").read_text() for name in ("hingetulip", "hingetulip_service"))
 RUST, RUST_SERVICE, RUST_ERRORS = (
@@ -22,13 +20,8 @@ DECLARED = (
     (RUST, HEADER, "dn_status", LEFT_OUT),
     (RUST_SERVICE, SERVICE_HEADER, "dn_service_status", {"dn_service_open", "dn_service_text"}),
 )
-WIDTHS = {
-    "void *": 8,
-    "bool": 1,
-    "struct dn_packet": 32,
-    "struct dn_fate": 32,
-    **{f"uint{8 * size}_t": size for size in (1, 2, 4, 8)},
-}
+WIDTHS = {"void *": 8, "bool": 1, "struct dn_packet": 32, "struct dn_fate": 32}
+WIDTHS |= {f"uint{8 * size}_t": size for size in (1, 2, 4, 8)}
 KINDS = {"usize": "size_t", "c_void": "void", "bool": "bool", **{f"u{bits}": f"uint{bits}_t" for bits in (8, 16, 32, 64)}}
 RAISED = {
     errors.ExhaustedError: "EXHAUSTED",
@@ -88,16 +81,8 @@ def rust_fields(name: str, source: str) -> list[tuple[str, str]]:
 
 class Header(unittest.TestCase):
     def test_structs(self) -> None:
-        layouts = {
-            "dn_packet": layout.PACKET,
-            "dn_fate": layout.FATE,
-            "dn_delivery": layout.DELIVERY,
-            "dn_flow": layout.FLOW,
-            "dn_fault": layout.FAULT,
-            "dn_entry": layout.ENTRY,
-            "dn_history": layout.HISTORY,
-            "dn_verdict": layout.VERDICT,
-        }
+        names = "packet fate delivery flow fault entry history verdict".split()
+        layouts = {f"dn_{name}": getattr(layout, name.upper()) for name in names}
         self.assertEqual({*re.findall(r"^struct (\w+) \{", HEADER, re.M)}, {*layouts, "dn_handle", "dn_audit"})
         for name, of_module in layouts.items():
             begin, found = 0, {}

@@ -1,16 +1,14 @@
 """Link words: short and in full, and whether the emulator accepts every text that the reader accepts. run/test_link_ways.py tests
 the answers to wrong words."""
 
-from __future__ import annotations
-
 import random
 import re
 import unittest
 
 from hingetulip import LineError, Shaper, aio
-from hingetulip_words.foreign import number
+from hingetulip_words.foreign import amount
 from hingetulip_words.link import WordError, in_full, read_link
-from hingetulip_words.presets import PRESETS, preset, table
+from hingetulip_words.presets import PRESETS, preset, preset_table
 from hingetulip_words.values import EXTRAS
 from simulated_hosts import TOP
 
@@ -23,11 +21,11 @@ WORDS = (
 
 class Words(unittest.TestCase):
     def test_words_of_a_queue(self) -> None:
-        self.assertEqual(read_link("weight 3 loss 0.5%", "queue"), {"weight": "3", "plr": "0.005"})
+        assert read_link("weight 3 loss 0.5%", "queue") == {"weight": "3", "plr": "0.005"}
 
     def test_no_number_of_another_tool_has_thousands_of_digits(self) -> None:
         """Python converts at most 4,300."""
-        self.assertEqual([number("9" * count + "ms", "ms") for count in (3, 5000)], [999, None])
+        assert [amount("9" * count + "ms", "ms") for count in (3, 5000)] == [999, None]
 
     def test_the_emulator_takes_what_the_reader_takes_and_no_more(self) -> None:
         """The library decides on random words in full: the reader accepts each text that the library does, without repeated
@@ -47,24 +45,23 @@ class Words(unittest.TestCase):
                 else:
                     taken += 1
                     shaper.configure(f"{line} {in_full(options)}")
-        self.assertGreater(taken, 500)
+        assert taken > 500
 
     def test_refused_words_change_no_simulated_link(self) -> None:
         with aio.Network() as net:
             one, other = net.host("10.0.0.1"), net.host("10.0.0.2")
             self.assertRaises(LineError, net.link, one, other, "8Mbit/s jitter 5")
-            self.assertEqual(net.links, {})
+            assert net.links == {}
             link = net.link(one, other, "bw 8Mbit/s delay 20")
             self.assertRaises(LineError, link.change, "queue 0")
-            self.assertEqual(link.line, f"pipe {link.pipe} config bw 8Mbit/s delay 20")
+            assert link.line == f"pipe {link.pipe} config bw 8Mbit/s delay 20"
 
 
-class Pages(unittest.TestCase):
-    def test_they_name_each_word(self) -> None:
-        """Those that dummynet doesn't have."""
-        for name in ("LINKS.md", "hinge.1"):
-            page = (TOP / "docs" / name).read_text(encoding="utf-8")
-            self.assertEqual([word for word in EXTRAS if not re.search(rf"(`|Ql ){word} ", page)], [], name)
+def test_they_name_each_word() -> None:
+    """Those that dummynet doesn't have."""
+    for name in ("LINKS.md", "hinge.1"):
+        page = (TOP / "docs" / name).read_text(encoding="utf-8")
+        assert [word for word in EXTRAS if not re.search(rf"(`|Ql ){word} ", page)] == [], name
 
 
 class Presets(unittest.TestCase):
@@ -73,14 +70,14 @@ class Presets(unittest.TestCase):
             for name, it in PRESETS.items():
                 for text in (it.up, it.down):
                     options = read_link(text)
-                    self.assertIn("bw", options)
+                    assert "bw" in options
                     shaper.configure(f"pipe 1 config {in_full(options)}")
-        self.assertTrue(all(len(line) <= 80 for line in table().splitlines()))
+        assert all(len(line) <= 80 for line in preset_table().splitlines())
 
     def test_the_page_names_each(self) -> None:
         page = (TOP / "docs" / "LINKS.md").read_text(encoding="utf-8")
         section = page.partition("\n## Presets\n")[2].partition("\n## ")[0]
-        self.assertEqual(set(PRESETS), set(re.findall(r"`([\w-]+)`(?=[,| ])", section)))
+        assert set(PRESETS) == set(re.findall(r"`([\w-]+)`(?=[,| ])", section))
 
     def test_one_that_is_none(self) -> None:
         self.assertRaisesRegex(ValueError, "^'fiber': not a preset; write fibre$", preset, "fiber")
@@ -90,10 +87,9 @@ class Presets(unittest.TestCase):
         """The figures are those of the profile Mobile LTE: 12 Mbit/s each way, and 70 ms there and back."""
         with aio.Network() as net:
             there, back = net.path(net.host("10.0.0.1"), net.host("10.0.0.2"), preset="lte")
-            self.assertEqual(
-                [it.line for it in (there, back)], [f"pipe {n} config bw 12Mbit/s delay 35ms queue 250" for n in (1, 2)]
-            )
+            assert [it.line for it in (there, back)] == [f"pipe {n} config bw 12Mbit/s delay 35ms queue 250" for n in (1, 2)]
             there, back = net.path(net.host("10.0.0.3"), net.host("10.0.0.2"), back="5ms", preset="3g")
-            self.assertEqual(
-                [it.line for it in (there, back)], ["pipe 3 config bw 768Kbit/s delay 150ms queue 20", "pipe 4 config delay 5ms"]
-            )
+            assert [it.line for it in (there, back)] == [
+                "pipe 3 config bw 768Kbit/s delay 150ms queue 20",
+                "pipe 4 config delay 5ms",
+            ]

@@ -1,7 +1,5 @@
 """The plugin of pytest beside other plugins, and with real programs and hosts."""
 
-from __future__ import annotations
-
 import functools
 import os
 import re

@@ -3,8 +3,6 @@
 Each test is a run of pytest over a file, in a process of its own.
 """
 
-from __future__ import annotations
-
 import re
 from pytest_runs import Runs, lacking
 

@@ -1,7 +1,5 @@
 """The pytest plugin's reports on values that a seed varied, on marks without effect, and on real calls."""
 
-from __future__ import annotations
-
 
 from pytest_runs import Runs
 
@@ -22,7 +20,7 @@ class OfTests(Runs):
             """,
             "--link-shrink",
         )
-        self.assertEqual({"failed": 2}, done.counts, done.text)
+        assert {"failed": 2} == done.counts, done.text
         self.assertRegex(done.text, r"drawn: 10.0.0.1 > 10.0.0.2 packet 1 late \d+ms\n")
         self.assertRegex(done.text, r"cut of 10.0.0.\d at .* s for .* s: it met \d+ packet")
         self.assertRegex(done.text, r"packet \d+ lost\nfails by 1 of \d+ faults, found in")
@@ -70,7 +68,7 @@ class OfTests(Runs):
                 await session(sim_net, 3)
             """
         )
-        self.assertEqual({"passed": 2, "failed": 5, "error": 1}, done.counts, done.text)
+        assert {"passed": 2, "failed": 5, "error": 1} == done.counts, done.text
         for text in (
             r"what met nothing:\ncut of 10.0.0.1 at .* s for 1 s: it met no packet\n",
             "the mark vary: jitter varied nothing: no packet came to a link\n",
@@ -82,7 +80,7 @@ class OfTests(Runs):
             "the mark link: the test made no link\n",
         ):
             self.assertRegex(done.text, text)
-        self.assertNotIn("cuts varied nothing", done.text)
+        assert "cuts varied nothing" not in done.text
 
     def test_a_mark_of_a_module_that_meets_nothing_in_all_its_tests(self) -> None:
         text = """
@@ -96,14 +94,14 @@ class OfTests(Runs):
                 await session(sim_net, 3)
             """
         done = self.run_pytest(text)
-        self.assertEqual({"passed": 2}, done.counts, done.text)
+        assert {"passed": 2} == done.counts, done.text
         self.assertRegex(
             done.text, r"test_\S+\.py: what met nothing in all its tests: the mark link: no link of the test has its words\n"
         )
-        self.assertNotIn("jitter varied nothing", done.text)
-        self.assertEqual(done.status, 1)
+        assert "jitter varied nothing" not in done.text
+        assert done.status == 1
         met = self.run_pytest(text + "\n            async def test_it(sim_net):\n                await session(sim_net, 3)\n")
-        self.assertEqual((met.counts, met.status), ({"passed": 3}, 0), met.text)
+        assert (met.counts, met.status) == ({"passed": 3}, 0), met.text
 
     def test_what_was_real_fails_a_test_that_no_mark_allows(self) -> None:
         done = self.run_pytest(
@@ -139,14 +137,12 @@ class OfTests(Runs):
             "-rA",
             "--strict-markers",
         )
-        self.assertEqual({"passed": 3, "failed": 2, "error": 1, "warning": 1}, done.counts, done.text)
+        assert {"passed": 3, "failed": 2, "error": 1, "warning": 1} == done.counts, done.text
         self.assertRegex(done.text, r"- real -+\n0 calls were real\n")
         self.assertRegex(done.text, r"\n5 in simulated time: 3 calls were real: subprocess.Popen 3; 1 was refused\n")
-        self.assertEqual(
-            done.text.count("1 call was real: subprocess.Popen 1; if that may be, write @pytest.mark.real('subprocess."), 2
-        )
-        self.assertIn("the mark real allows 'libpq', and no call that was real has that name", done.text)
-        self.assertIn("the mark real takes names of what may be real", done.text)
+        assert done.text.count("1 call was real: subprocess.Popen 1; if that may be, write @pytest.mark.real('subprocess.") == 2
+        assert "the mark real allows 'libpq', and no call that was real has that name" in done.text
+        assert "the mark real takes names of what may be real" in done.text
 
     def test_a_search_finds_what_neither_the_links_nor_the_seed_do(self) -> None:
         done = self.run_pytest(
@@ -170,12 +166,12 @@ class OfTests(Runs):
             "--link-search",
             "--link-runs=9",
         )
-        self.assertEqual({"passed": 2, "failed": 2}, done.counts, done.text)
+        assert {"passed": 2, "failed": 2} == done.counts, done.text
         self.assertRegex(done.text, r"test_of_a_clock: at 0s skew 10.0.0.2 \+[\d.]+s: by seed \d .*, \d+ runs\n")
         self.assertRegex(done.text, r"- least faults -+\n10.0.0.\d > 10.0.0.\d packet \d lost\nfound by .* in \d+ runs\n")
         self.assertRegex(done.text, r"test_all_come\[9\]: 10.0.0.\d > 10.0.0.\d packet \d lost: by .*, \d+ runs\n")
         self.assertRegex(done.text, r"test_all_come\[0\]: no failure in \d+ runs\n")
-        self.assertIn("test_of_no_packet: no failure in 0 runs\n", done.text)
+        assert "test_of_no_packet: no failure in 0 runs\n" in done.text
 
     def test_the_table_of_a_sweep(self) -> None:
         done = self.run_pytest(
@@ -193,7 +189,7 @@ class OfTests(Runs):
             done.text,
             r"\n\S+::test_swept with of <function session>: (\d+) of 20 seeds failed: [\d, ]+( and \d more)? \(delay 1\.\.9ms\)\n",
         )
-        self.assertNotIn("in no test was a packet", done.text)
+        assert "in no test was a packet" not in done.text
 
     def test_a_part_of_a_network_that_no_packet_meets_is_told(self) -> None:
         done = self.run_pytest(
@@ -223,15 +219,15 @@ class OfTests(Runs):
                 await session(sim_net, 3)
             """
         )
-        self.assertEqual({"passed": 3, "warnings": 4}, done.counts, done.text)
+        assert {"passed": 3, "warnings": 4} == done.counts, done.text
         for text in (
             "no packet came to a link",
             "no packet met the change of 10.0.0.1 > 10.0.0.2 at 3 s",
             "no packet met the jitter of 10.0.0.3 > 10.0.0.4",
             "no packet met the route from 10.0.0.1 to 10.0.0.2",
         ):
-            self.assertIn(f"PytestWarning: {text}\n", done.text)
+            assert f"PytestWarning: {text}\n" in done.text
 
     def test_that_nothing_ever_happened(self) -> None:
         done = self.run_pytest("async def test_it(sim_net):\n    assert await session(sim_net, 3) == 3\n")
-        self.assertIn("\nin no test was a packet lost, late or out of order: ", done.text)
+        assert "\nin no test was a packet lost, late or out of order: " in done.text

@@ -1,25 +1,12 @@
 """The module against the reference: random scenarios, each reply compared."""
 
-from __future__ import annotations
-
 import unittest
 from itertools import groupby
 from random import Random
 
 import hingetulip
-from reference import (
-    STYLES,
-    FastDummynet,
-    LineFault,
-    answer,
-    bad_line,
-    deliveries,
-    model,
-    packets_of,
-    parse_line,
-    reply_of,
-    scenarios,
-)
+from reference import STYLES, FastDummynet, LineFault, answer, bad_line, deliveries, model
+from reference import packets_of, parse_line, reply_of, scenarios
 
 
 class Scenarios(unittest.TestCase):
@@ -57,8 +44,7 @@ class Scenarios(unittest.TestCase):
         self.assertGreater(most, 5)
 
     def test_wake(self) -> None:
-        """After each call `wake` tells when the reference starts or delivers a packet next; a collect before it gives
-        nothing."""
+        """After each call `wake` tells when the reference starts or delivers a packet next; a collect before it gives nothing."""
         told = 0
         for number, (rule, calls, _) in enumerate(scenarios()):
             net = FastDummynet(rule.name.lower())
@@ -75,8 +61,7 @@ class Scenarios(unittest.TestCase):
         self.assertGreater(told, 1000)
 
     def test_a_scenario_by_waking(self) -> None:
-        """Collected at each `wake`, a scenario's packets come as they do in one collect at the end, each at its due
-        moment."""
+        """Collected at each `wake`, a scenario's packets come as they do in one collect at the end, each at its due moment."""
         for number, (rule, calls, _) in enumerate(scenarios()):
             arrivals = [call for call in calls if isinstance(call, (model.Submit, model.Configure))]
             net, found, last = FastDummynet(rule.name.lower()), [], 0

@@ -1,40 +1,29 @@
-"""A service against values worked out by hand, and eight threads that share one, whose history `dummynet audit` finds
-lawful."""
+"""A service against values worked out by hand, and eight threads that share one, whose history `dummynet audit` finds lawful."""
 
-from __future__ import annotations
-
-import os
 import re
 import resource
 import signal
-import subprocess
 import sys
-import unittest
 from concurrent.futures import ThreadPoolExecutor
-from pathlib import Path
 from random import Random
-from tempfile import TemporaryDirectory
 from time import sleep
 from unittest import mock
 
 import hingetulip
 from hingetulip import ClosedError, InUseError, LineError, Outcome, RangeError, RefusedError, Service, Shaper
 from hingetulip import history_file, service
+from simulated_hosts import TOP, audited
+from with_folder import WithFolder
 
-TOP = Path(__file__).resolve().parents[2]
 HEADER = TOP / "crates" / "hingetulip_c" / "include" / "hingetulip_service.h"
 LINE = "pipe 1 config bw 8Mbit/s delay 20ms queue 1"
 MS = 1_000_000
 THREADS, CALLS = 8, 400
 
 
-def program() -> Path:
-    """The program `dummynet`: the one that the gate names, else the released one."""
-    return Path(os.environ.get("DUMMYNET", TOP / "release" / "dummynet"))
-
-
-class OneCaller(unittest.TestCase):
+class OneCaller(WithFolder):
     def setUp(self) -> None:
+        super().setUp()
         self.service = Service(1)
         self.addCleanup(self.service.close)
         (self.caller,) = self.service.callers
@@ -71,27 +60,25 @@ class OneCaller(unittest.TestCase):
             self.assertRaises(ClosedError, call)
 
     def test_a_full_disk(self) -> None:
-        with TemporaryDirectory() as folder:
-            path = Path(folder) / "history"
-            self.service.history(path)
-            limits = resource.getrlimit(resource.RLIMIT_FSIZE)
-            before = signal.signal(signal.SIGXFSZ, signal.SIG_IGN)
-            resource.setrlimit(resource.RLIMIT_FSIZE, (100, limits[1]))
-            try:
-                for moment in range(3000):
-                    self.caller.advance(moment)
-                self.assertRaises(OSError, self.service.take)
-                self.caller.advance(3000)
-                self.assertRaises(OSError, self.service.close)
-                self.assertFalse(self.service.closed)
-                self.assertRaises(OSError, self.service.close)
-            finally:
-                resource.setrlimit(resource.RLIMIT_FSIZE, limits)
-                signal.signal(signal.SIGXFSZ, before)
-            self.service.close()
-            self.assertTrue(self.service.closed)
-            done = subprocess.run([program(), "audit", path], capture_output=True, text=True)
-            self.assertEqual("lawful 3002\n", done.stdout, done.stderr)
+        path = self.folder / "history"
+        self.service.history(path)
+        limits = resource.getrlimit(resource.RLIMIT_FSIZE)
+        before = signal.signal(signal.SIGXFSZ, signal.SIG_IGN)
+        resource.setrlimit(resource.RLIMIT_FSIZE, (100, limits[1]))
+        try:
+            for moment in range(3000):
+                self.caller.advance(moment)
+            self.assertRaises(OSError, self.service.take)
+            self.caller.advance(3000)
+            self.assertRaises(OSError, self.service.close)
+            self.assertFalse(self.service.closed)
+            self.assertRaises(OSError, self.service.close)
+        finally:
+            resource.setrlimit(resource.RLIMIT_FSIZE, limits)
+            signal.signal(signal.SIGXFSZ, before)
+        self.service.close()
+        self.assertTrue(self.service.closed)
+        self.assertEqual("lawful 3002\n", audited(path))
 
     def test_a_signal_in_a_call(self) -> None:
         seen = {InUseError: 0, int: 0}
@@ -120,84 +107,78 @@ class OneCaller(unittest.TestCase):
         self.assertEqual(5, self.caller.advance(5))
 
     def test_history(self) -> None:
-        with TemporaryDirectory() as folder:
-            path = Path(folder) / "history"
-            self.service.history(path)
-            self.assertRaises(ValueError, self.service.history, path)
-            self.assertEqual([1, 0], [self.service.take(), self.service.take()])
-            taken = path.read_text()
-            self.assertEqual(
-                taken, "dummynet-history,3\nc,0,configure,pipe 1 config bw 8000000bit/s delay 20 queue 1\nr,configured\n"
-            )
-            self.caller.submit(0, 1000, pipe=1, src=0x0A000001, word=3)
-            self.service.close()
-            self.assertEqual(path.read_text(), f"{taken}c,0,submit,pipe,1,10.0.0.1,0.0.0.0,0,0,0,1000,3,0\nr,queued,0,0,0\nend,2\n")
+        path = self.folder / "history"
+        self.service.history(path)
+        self.assertRaises(ValueError, self.service.history, path)
+        self.assertEqual([1, 0], [self.service.take(), self.service.take()])
+        taken = path.read_text()
+        self.assertEqual(taken, "dummynet-history,3\nc,0,configure,pipe 1 config bw 8000000bit/s delay 20 queue 1\nr,configured\n")
+        self.caller.submit(0, 1000, pipe=1, src=0x0A000001, word=3)
+        self.service.close()
+        self.assertEqual(path.read_text(), f"{taken}c,0,submit,pipe,1,10.0.0.1,0.0.0.0,0,0,0,1000,3,0\nr,queued,0,0,0\nend,2\n")
 
     def test_an_entry_longer_than_the_room(self) -> None:
         self.caller.configure("pipe 1 config bw 8Mbit/s")
         for number in range(45):
             self.caller.submit(0, 100, pipe=1)
         self.assertEqual(45, len(self.caller.collect(10_000 * MS)))
-        with TemporaryDirectory() as folder:
-            path = Path(folder) / "history"
-            self.service.history(path)
-            self.service._text = (service.c_char * 16)()
-            self.service.close()
-            self.assertEqual(45, path.read_text().count("\nd,"))
+        path = self.folder / "history"
+        self.service.history(path)
+        self.service._text = (service.c_char * 16)()
+        self.service.close()
+        self.assertEqual(45, path.read_text().count("\nd,"))
 
 
-class AsOneShaper(unittest.TestCase):
-    def test_two_callers_by_turns(self) -> None:
-        rng = Random(1)
-        lines = (
-            "pipe 1 config bw 8Mbit/s delay 20ms queue 5 mask src-ip 3",
-            "pipe 2 config bw 1Mbit/s delay 3ms",
-            "queue 1 config pipe 2 weight 3 mask dst-port 1",
-        )
-        with Service(2) as opened, Shaper() as shaper:
-            for line in lines:
-                opened.callers[0].configure(line)
-                shaper.configure(line)
-            for turn in range(600):
-                caller, moment = rng.choice(opened.callers), turn * MS // 2
-                packet = dict(
-                    rng.choice(({"pipe": 1}, {"queue": 1}, {"queue": 2})), src=rng.randrange(4), dport=rng.randrange(2), word=0
-                )
-                self.assertEqual(shaper.submit(moment, 1000, **packet), caller.submit(moment, 1000, **packet))
-                self.assertEqual(shaper.wake(), rng.choice(opened.callers).wake())
-                if turn % 7 == 0:
-                    self.assertEqual(shaper.show(), caller.show())
-                    self.assertEqual(shaper.advance(moment - 1 if turn else 0), caller.advance(moment - 1 if turn else 0))
-                if turn % 5 == 0:
-                    self.assertEqual(shaper.collect(moment), caller.collect(moment))
+def test_two_callers_by_turns() -> None:
+    rng = Random(1)
+    lines = (
+        "pipe 1 config bw 8Mbit/s delay 20ms queue 5 mask src-ip 3",
+        "pipe 2 config bw 1Mbit/s delay 3ms",
+        "queue 1 config pipe 2 weight 3 mask dst-port 1",
+    )
+    with Service(2) as opened, Shaper() as shaper:
+        for line in lines:
+            opened.callers[0].configure(line)
+            shaper.configure(line)
+        for turn in range(600):
+            caller, moment = rng.choice(opened.callers), turn * MS // 2
+            packet = dict(
+                rng.choice(({"pipe": 1}, {"queue": 1}, {"queue": 2})), src=rng.randrange(4), dport=rng.randrange(2), word=0
+            )
+            assert shaper.submit(moment, 1000, **packet) == caller.submit(moment, 1000, **packet)
+            assert shaper.wake() == rng.choice(opened.callers).wake()
+            if turn % 7 == 0:
+                assert shaper.show() == caller.show()
+                assert shaper.advance(moment - 1 if turn else 0) == caller.advance(moment - 1 if turn else 0)
+            if turn % 5 == 0:
+                assert shaper.collect(moment) == caller.collect(moment)
 
 
-class Counts(unittest.TestCase):
-    def test_from_one_to_fifteen(self) -> None:
-        for count in (1, 15):
-            with Service(count) as opened:
-                self.assertEqual(list(range(count)), [caller.number for caller in opened.callers])
-                self.assertEqual(list(range(count)), [caller.advance(caller.number) for caller in opened.callers])
-            self.assertTrue(opened.closed)
+def test_from_one_to_fifteen() -> None:
+    for count in (1, 15):
+        with Service(count) as opened:
+            assert list(range(count)) == [caller.number for caller in opened.callers]
+            assert list(range(count)) == [caller.advance(caller.number) for caller in opened.callers]
+        assert opened.closed
 
 
-class Waiting(unittest.TestCase):
-    def test_a_busy_service_is_tried_at_once_and_then_after_rests(self) -> None:
-        statuses = iter([service.BUSY] * 6 + [16])
-        with mock.patch.object(service, "sleep") as sleep:
-            self.assertEqual(16, service.retried(lambda *_: next(statuses), 1, 2))
-        self.assertEqual([mock.call(0)] * 4 + [mock.call(20e-6)] * 2, sleep.mock_calls)
+def test_a_busy_service_is_tried_at_once_and_then_after_rests() -> None:
+    statuses = iter([service.BUSY] * 6 + [16])
+    with mock.patch.object(service, "sleep") as sleep:
+        assert 16 == service.retried(lambda *_: next(statuses), 1, 2)
+    assert [mock.call(0)] * 4 + [mock.call(20e-6)] * 2 == sleep.mock_calls
 
 
-class Header(unittest.TestCase):
-    def test_statuses(self) -> None:
-        statuses = dict(re.findall(r"(DN_\w+) = (\d+)", HEADER.read_text()))
-        self.assertEqual(
-            {"DN_BUSY": str(service.BUSY), "DN_BAD_COUNT": "16", "DN_UNWRITTEN": "17", "DN_NO_ENTRY": str(service.NO_ENTRY)},
-            statuses,
-        )
-        front = f'#define DN_HISTORY_FRONT "{history_file.FRONT.decode().strip()}\\n"'
-        self.assertIn(front, HEADER.with_name("hingetulip.h").read_text())  # which the header of services includes
+def test_statuses() -> None:
+    statuses = dict(re.findall(r"(DN_\w+) = (\d+)", HEADER.read_text()))
+    assert {
+        "DN_BUSY": str(service.BUSY),
+        "DN_BAD_COUNT": "16",
+        "DN_UNWRITTEN": "17",
+        "DN_NO_ENTRY": str(service.NO_ENTRY),
+    } == statuses
+    front = f'#define DN_HISTORY_FRONT "{history_file.FRONT.decode().strip()}\\n"'
+    assert front in HEADER.with_name("hingetulip.h").read_text()  # which the header of services includes
 
 
 def work(shared: Service, number: int) -> int:
@@ -217,10 +198,10 @@ def work(shared: Service, number: int) -> int:
     return under_way
 
 
-class Threads(unittest.TestCase):
+class Threads(WithFolder):
     def test_a_lawful_history(self) -> None:
-        with TemporaryDirectory() as folder, Service(THREADS // 2) as shared:
-            path = Path(folder) / "history"
+        with Service(THREADS // 2) as shared:
+            path = self.folder / "history"
             shared.history(path)
             for line in ("pipe 1 config bw 8Mbit/s delay 20ms queue 10", "pipe 2 config bw 1Mbit/s plr 0.1 queue 5"):
                 shared.callers[0].configure(line)
@@ -232,8 +213,7 @@ class Threads(unittest.TestCase):
             self.assertEqual(left, sum(one.result() for one in working))
             shared.close()
             entries = THREADS * CALLS + 3
-            done = subprocess.run([program(), "audit", path], stdout=subprocess.PIPE, text=True)
-            self.assertEqual((0, f"lawful {entries}\n"), (done.returncode, done.stdout))
+            self.assertEqual(f"lawful {entries}\n", audited(path))
 
     def test_a_call_of_a_caller_keeps_pythons_lock(self) -> None:
         """Another thread would get on in one of so many calls, if a call released the lock."""

@@ -3,30 +3,24 @@
 A packet of 1,000 bytes takes 1 ms at 8 Mbit/s. A datagram has 28 bytes more than its data, and an IPv6 datagram 48.
 """
 
-from __future__ import annotations
-
 import asyncio
 import errno
 import fcntl
 import os
 import re
 import socket
-import subprocess
-import tempfile
-import unittest
-from pathlib import Path
 from typing import Any, Callable, Optional
 
 import pytest
 
 from hingetulip import aio
-from simulated_hosts import PROGRAM, Ends, opened
-from simulated_sockets import ONE, OTHER, OTHER_OF_6, both, on, udp
+from simulated_hosts import ONE, OTHER, OTHER_OF_6, Ends, audited, both, on, opened, udp
+from with_folder import WithFolder
 
 MS = 10**6  # ns
 
 
-class Calls(unittest.TestCase):
+class Calls(WithFolder):
     def test_a_reader_and_what_a_socket_tells(self) -> None:
         async def main(net: aio.Network) -> list[Any]:
             await net.hosts[OTHER].endpoint(lambda: Ends(True), 7)
@@ -94,17 +88,15 @@ class Calls(unittest.TestCase):
             assert [] == lonely.faults
             return [it.errno for it in ends.faults], at
 
-        with tempfile.TemporaryDirectory() as folder:
-            history = Path(folder) / "h"
-            with both(history=history) as net:
-                faults, at = on(net, ONE, main(net))
-                assert {f"{OTHER}:9": 4} == net.unheard
-            lines = history.read_text().splitlines()
-            done = subprocess.run([PROGRAM, "audit", history], capture_output=True, text=True)
+        history = self.folder / "h"
+        with both(history=history) as net:
+            faults, at = on(net, ONE, main(net))
+            assert {f"{OTHER}:9": 4} == net.unheard
+        lines = history.read_text().splitlines()
         assert ([errno.ECONNREFUSED], 2 * 20 * MS + (29 + 57) * 1000) == (faults, at)
         answers = [line.split(",") for line in lines if line.startswith("c,0,submit,pipe,2")]
         assert [[OTHER, ONE, "1", "0", "0", length] for length in ("57", "576", "57", "57")] == [it[5:11] for it in answers]
-        assert re.search(r"^lawful \d+\n$", done.stdout)
+        assert re.search(r"^lawful \d+\n$", audited(history))
 
     def test_a_host_that_is_down_answers_nothing(self) -> None:
         async def main(net: aio.Network) -> list[Exception]:
@@ -216,7 +208,9 @@ class Calls(unittest.TestCase):
 
         async def main(net: aio.Network) -> list[Any]:
             server = await net.hosts[OTHER].create_task(opened(local=("0.0.0.0", 7)))
-            free, bound, later = await opened(), await opened(remote=(OTHER, 7)), Ends()
+            free = await opened()
+            bound = await opened(remote=(OTHER, 7))
+            later = Ends()
             with pytest.raises(TypeError, match="not str"):
                 free.transport.sendto("text", (OTHER, 7))
             with pytest.raises(OSError) as without_peer:

@@ -1,15 +1,12 @@
 """Names of hosts and sockets bound to them, and groups of multicast."""
 
-from __future__ import annotations
-
 import asyncio
 import socket
 import unittest
 from typing import Any
 
 from hingetulip import aio
-from simulated_hosts import Ends, opened
-from simulated_sockets import ONE, ONE_OF_6, OTHER, OTHER_OF_6, both, on, udp
+from simulated_hosts import ONE, ONE_OF_6, OTHER, OTHER_OF_6, Ends, both, on, opened, udp
 
 
 class Groups(unittest.TestCase):
@@ -82,7 +79,8 @@ class SecondNames(unittest.TestCase):
         """1,000 bytes of IPv6 have 952 of data. An IPv6 socket accepts both, and shows IPv4 addresses in a special form."""
 
         async def main(net: aio.Network) -> list[Any]:
-            loop, made = asyncio.get_running_loop(), udp(socket.AF_INET6)
+            loop = asyncio.get_running_loop()
+            made = udp(socket.AF_INET6)
             server = (await net.hosts[OTHER].create_task(loop.create_datagram_endpoint(lambda: Ends(True), ("::", 7))))[1]
             made.setsockopt(socket.IPPROTO_IPV6, socket.IPV6_V6ONLY, 0)
             made.bind(("::", 5000, 0, 0))
@@ -102,7 +100,9 @@ class SecondNames(unittest.TestCase):
 
     def test_only_ipv6(self) -> None:
         async def main(net: aio.Network) -> tuple[int, int]:
-            made, beside, ends = udp(socket.AF_INET6), udp(), await opened()
+            made = udp(socket.AF_INET6)
+            beside = udp()
+            ends = await opened()
             made.setsockopt(socket.IPPROTO_IPV6, socket.IPV6_V6ONLY, 1)
             made.bind(("::", 7))
             beside.bind(("", 7))

@@ -1,7 +1,5 @@
 """What a seed varies in a test, and cuts and holds of hosts."""
 
-from __future__ import annotations
-
 import asyncio
 import time
 import unittest

@@ -1,7 +1,5 @@
 """A test with a temporary folder, removed with the test."""
 
-from __future__ import annotations
-
 import tempfile
 import unittest
 from pathlib import Path

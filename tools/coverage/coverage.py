@@ -9,8 +9,6 @@ under coverage.py. It takes gcov and Debian's python3-coverage. With --not-reach
 that no test reaches. It exits 1 if a sum is below a given limit, in percent. A suite that fails counts too.
 """
 
-from __future__ import annotations
-
 import argparse
 import json
 import os
@@ -145,7 +143,8 @@ def c_files(folder: Path) -> Iterator[File]:
 def add(lines: list[dict[str, Any]], counts: Counter[int], taken: dict[int, list[int]]) -> None:
     """Adds gcov's figures for a file's lines. The branches of a line in several objects, such as a header's, count once."""
     for line in lines:
-        number, branches = line["line_number"], [branch["count"] for branch in line["branches"]]
+        number = line["line_number"]
+        branches = [branch["count"] for branch in line["branches"]]
         counts[number] += line["count"]
         before = taken.get(number, [])
         is_again = len(before) == len(branches)

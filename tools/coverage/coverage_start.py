@@ -3,8 +3,6 @@
 A file `.pth` among a user's packages imports it. It does nothing unless COVERAGE_PROCESS_START names what to count.
 """
 
-from __future__ import annotations
-
 import contextlib
 import os
 from typing import Any, Callable

@@ -11,8 +11,6 @@ numbers as the program writes them: what a text may be else, the other reference
 of a short history, and a time as the square of its calls of a long one.
 """
 
-from __future__ import annotations
-
 import sys
 import threading
 from collections.abc import Callable

@@ -5,8 +5,6 @@ text over the sessions of wrong.py, and has to say something else than the progr
 makes no definition, as one of a field that a record hasn't, is none.
 """
 
-from __future__ import annotations
-
 import re
 from collections import Counter
 from collections.abc import Callable, Iterable, Iterator

@@ -1,7 +1,5 @@
 """Tries the checker itself: small texts with known meanings, faulty ones, and a history with one reply changed."""
 
-from __future__ import annotations
-
 import sys
 from collections.abc import Callable
 from pathlib import Path

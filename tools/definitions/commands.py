@@ -1,7 +1,5 @@
 """The reader of a command's line in its canonical form, as in histories."""
 
-from __future__ import annotations
-
 import re
 
 from values import NONE, Data, Value, data, record, some

@@ -1,7 +1,5 @@
 """Has the program answer drawn sessions, and the definitions too."""
 
-from __future__ import annotations
-
 import subprocess
 from collections.abc import Iterator
 from random import Random

@@ -1,7 +1,5 @@
 """Draws sessions: lines of calls that try the rules at their edges, with few pipes, queues, addresses and moments."""
 
-from __future__ import annotations
-
 from random import Random
 
 LIMITS = ("", "", " queue 1", " queue 2", " queue 3", " queue 1Kbytes", " queue 2Kbytes", " queue 3Kbytes")

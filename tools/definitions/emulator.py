@@ -1,7 +1,5 @@
 """The content of dn_types' definitions: replies, lawful histories, and the ranges of calls."""
 
-from __future__ import annotations
-
 from collections.abc import Sequence
 from pathlib import Path
 from typing import NamedTuple, Optional
@@ -40,7 +38,9 @@ class Emulator:
         The definitions of whole histories must agree: a history with only right replies is lawful.
         """
         self.definitions.forget()
-        reply, under, calls = self.definitions.value("Replies", "reply"), data(f"Rule.{rule}"), NIL
+        reply = self.definitions.value("Replies", "reply")
+        under = data(f"Rule.{rule}")
+        calls = NIL
         history: list[Value] = []
         for place, entry in enumerate(entries):
             call = call_of(entry.call)

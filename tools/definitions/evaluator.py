@@ -4,31 +4,12 @@
 definition of specs ends for all arguments. What a definition gives for kept values is computed once.
 """
 
-from __future__ import annotations
-
 from collections.abc import Callable
 from typing import Optional
 
+import syntax
 from prelude import SIGNS, WORDS
 from source import Constructor, Spec
-from syntax import (
-    Apply,
-    ConsPattern,
-    Elim,
-    EmptyList,
-    Equation,
-    Expression,
-    Field,
-    Infix,
-    Lambda,
-    Let,
-    Name,
-    NamePattern,
-    NilPattern,
-    Number,
-    Pattern,
-    Record,
-)
 from tokens import NotUnderstood
 from values import KEPT, NIL, Data, Function, Value, apply, are_kept, data, record
 
@@ -99,7 +80,7 @@ class Compiler:
     def __init__(self, definitions: Definitions, file: str) -> None:
         self.definitions, self.file = definitions, file
 
-    def definition(self, equations: list[Equation]) -> Value:
+    def definition(self, equations: list[syntax.Equation]) -> Value:
         """Returns a definition, which uses the first equation whose patterns match."""
         name, arity = equations[0].name, len(equations[0].patterns)
         ways = [self.equation(equation) for equation in equations]
@@ -123,7 +104,7 @@ class Compiler:
         self.definitions.memories.append(memory)
         return Function(arity, run)
 
-    def equation(self, equation: Equation) -> tuple[list[Match], Code]:
+    def equation(self, equation: syntax.Equation) -> tuple[list[Match], Code]:
         scope: Scope = ()
         matches = []
         for pattern in equation.patterns:
@@ -131,18 +112,18 @@ class Compiler:
             matches.append(match)
         return matches, self.code(equation.body, scope)
 
-    def pattern(self, pattern: Pattern, scope: Scope) -> tuple[Match, Scope]:
+    def pattern(self, pattern: syntax.Pattern, scope: Scope) -> tuple[Match, Scope]:
         """Returns code that matches a pattern, and the scope after it."""
-        if isinstance(pattern, NilPattern):
+        if isinstance(pattern, syntax.NilPattern):
             return lambda value, variables: variables if value is NIL else None, scope
-        if isinstance(pattern, ConsPattern):
+        if isinstance(pattern, syntax.ConsPattern):
             return self.parts("∷", (pattern.head, pattern.tail), scope)
-        if not isinstance(pattern, NamePattern):
+        if not isinstance(pattern, syntax.NamePattern):
             number = pattern.value
             return lambda value, variables: variables if value == number else None, scope
         return self.named(pattern, scope)
 
-    def named(self, pattern: NamePattern, scope: Scope) -> tuple[Match, Scope]:
+    def named(self, pattern: syntax.NamePattern, scope: Scope) -> tuple[Match, Scope]:
         name = pattern.name
         constructor = self.definitions.constructor(self.file, name)
         if constructor is not None:
@@ -167,7 +148,7 @@ class Compiler:
             return lambda value, variables: variables, scope
         return lambda value, variables: (*variables, value), (*scope, name)
 
-    def parts(self, constructor: str, patterns: tuple[Pattern, ...], scope: Scope) -> tuple[Match, Scope]:
+    def parts(self, constructor: str, patterns: tuple[syntax.Pattern, ...], scope: Scope) -> tuple[Match, Scope]:
         matches = []
         for pattern in patterns:
             match, scope = self.pattern(pattern, scope)
@@ -180,27 +161,28 @@ class Compiler:
 
         return whole, scope
 
-    def code(self, expression: Expression, scope: Scope) -> Code:
-        if isinstance(expression, Number):
+    def code(self, expression: syntax.Expression, scope: Scope) -> Code:
+        if isinstance(expression, syntax.Number):
             number = expression.value
             return lambda variables: number
-        if isinstance(expression, EmptyList):
+        if isinstance(expression, syntax.EmptyList):
             return lambda variables: NIL
-        if isinstance(expression, Name):
+        if isinstance(expression, syntax.Name):
             return self.name(expression.text, scope)
-        if isinstance(expression, Field):
-            inner, name = self.code(expression.record, scope), expression.name
+        if isinstance(expression, syntax.Field):
+            inner = self.code(expression.record, scope)
+            name = expression.name
             return lambda variables: inner(variables)[name]  # type: ignore[index]
-        if isinstance(expression, Infix):
+        if isinstance(expression, syntax.Infix):
             return self.infix(expression, scope)
-        if isinstance(expression, Apply):
+        if isinstance(expression, syntax.Apply):
             return self.apply(expression, scope)
-        if isinstance(expression, Let):
+        if isinstance(expression, syntax.Let):
             value, body = self.code(expression.value, scope), self.code(expression.body, (*scope, expression.name))
             return lambda variables: body((*variables, value(variables)))
-        if isinstance(expression, Lambda):
+        if isinstance(expression, syntax.Lambda):
             return self.function(expression, scope)
-        return self.record(expression, scope) if isinstance(expression, Record) else self.elim(expression, scope)
+        return self.record(expression, scope) if isinstance(expression, syntax.Record) else self.elim(expression, scope)
 
     def name(self, name: str, scope: Scope) -> Code:
         if name in scope:
@@ -215,7 +197,7 @@ class Compiler:
 
         return look_up
 
-    def infix(self, expression: Infix, scope: Scope) -> Code:
+    def infix(self, expression: syntax.Infix, scope: Scope) -> Code:
         left, right = self.code(expression.left, scope), self.code(expression.right, scope)
         if expression.sign in ("&&", "×"):
             return lambda variables: left(variables) and right(variables)
@@ -230,20 +212,20 @@ class Compiler:
         run: Callable[..., Value] = SIGNS[expression.sign]
         return lambda variables: run(left(variables), right(variables))
 
-    def apply(self, expression: Apply, scope: Scope) -> Code:
+    def apply(self, expression: syntax.Apply, scope: Scope) -> Code:
         arguments = [self.code(argument, scope) for argument in expression.arguments]
-        if expression.function == Name("cond") and len(arguments) == 3:
+        if expression.function == syntax.Name("cond") and len(arguments) == 3:
             condition, yes, no = arguments
             return lambda variables: (yes if condition(variables) else no)(variables)
         function = self.code(expression.function, scope)
         return lambda variables: apply(function(variables), *[argument(variables) for argument in arguments])
 
-    def function(self, expression: Lambda, scope: Scope) -> Code:
+    def function(self, expression: syntax.Lambda, scope: Scope) -> Code:
         body = self.code(expression.body, (*scope, *expression.names))
         arity = len(expression.names)
         return lambda variables: Function(arity, lambda *values: body((*variables, *values)), (), False)
 
-    def record(self, expression: Record, scope: Scope) -> Code:
+    def record(self, expression: syntax.Record, scope: Scope) -> Code:
         fields = [(name, self.code(value, scope)) for name, value in expression.fields]
         base = self.code(expression.base, scope) if expression.base else None
 
@@ -257,7 +239,7 @@ class Compiler:
 
         return make
 
-    def elim(self, expression: Elim, scope: Scope) -> Code:
+    def elim(self, expression: syntax.Elim, scope: Scope) -> Code:
         value = self.code(expression.value, scope)
         cases = []
         for pattern, body in expression.cases:

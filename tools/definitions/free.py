@@ -5,8 +5,6 @@ to find it valid. Where a session has other replies by rule Ordered, the program
 says Free.
 """
 
-from __future__ import annotations
-
 import subprocess
 from collections.abc import Iterator, Sequence
 from itertools import chain
@@ -26,7 +24,9 @@ FREE, ORDERED = "dummynet-history,2", "dummynet-history,3"
 def answered(emulator: Emulator, lines: Sequence[str], rule: str) -> list[Entry]:
     """Returns the calls with the definitions' replies."""
     emulator.definitions.forget()
-    reply, under, calls = emulator.definitions.value("Replies", "reply"), data(f"Rule.{rule}"), NIL
+    reply = emulator.definitions.value("Replies", "reply")
+    under = data(f"Rule.{rule}")
+    calls = NIL
     entries = []
     for line in lines:
         call = call_of(line)

@@ -4,8 +4,6 @@ The library makes the calls of sessions, and gets packets that are out of range.
 definitions for C, a packet's call and fate, each call's status, and the moment that an Advance reports.
 """
 
-from __future__ import annotations
-
 import ctypes
 import subprocess
 import sys
@@ -28,7 +26,9 @@ import wrong_definitions  # noqa: E402
 from tally import Tally, stated  # noqa: E402
 
 SPECS = TOP / "crates" / "hingetulip_c" / "specs"
-PACKET, FATE, HANDLE = Struct("=QIIIHHHHBBH"), Struct("=QQQII"), 16
+PACKET = Struct("=QIIIHHHHBBH")
+FATE = Struct("=QQQII")
+HANDLE = 16
 PACKET_FIELDS = ("moment", "src", "dst", "word", "sport", "dport", "length", "number", "kind", "proto", "reserved")
 FATE_FIELDS = ("at", "flow", "packet", "outcome", "reserved")
 OLD = (7, 7, 7, 7, 7)  # a fate before the call
@@ -147,7 +147,8 @@ def of_sessions(sessions: Sequence[Sequence[Entry]]) -> Iterator[Done]:
     """Yields sessions' calls, each on a separate handle, and packets out of range. Nothing is forgotten between them, since equal
     values are one object."""
     emulator = Emulator(texts())
-    reply, under = emulator.definitions.value("Replies", "reply"), data("Rule.Ordered")
+    reply = emulator.definitions.value("Replies", "reply")
+    under = data("Rule.Ordered")
     for entries in sessions:
         handle, calls = Handle(), NIL
         for line in (entry.call for entry in entries):
@@ -169,7 +170,8 @@ def difference(definitions: Definitions, done: Done) -> str:
     def said(file: str, name: str, *given: Value) -> Value:
         return apply(definitions.value(file, name), *given)
 
-    old, is_faulty = record(dict(zip(FATE_FIELDS, OLD))), done.reply is NIL
+    old = record(dict(zip(FATE_FIELDS, OLD)))
+    is_faulty = done.reply is NIL
     wanted: list[tuple[Value, Value]] = []
     if done.call.constructor == "Call.Configure":
         wanted = [(said("Statuses", "configure_status", done.reply), done.status)]

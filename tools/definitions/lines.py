@@ -1,7 +1,5 @@
 """Configuration lines by the text of crates/dn_config/specs: the C library reads each as the definitions say."""
 
-from __future__ import annotations
-
 import ctypes
 from collections.abc import Iterator, Sequence
 from functools import cache
@@ -77,7 +75,9 @@ def corpus() -> Iterator[str]:
 
 def told(line: str) -> Value:
     """Returns what the C library reads of a line."""
-    fault, text, length = ctypes.create_string_buffer(FAULT.size), ctypes.create_string_buffer(ROOM), ctypes.c_uint64()
+    fault = ctypes.create_string_buffer(FAULT.size)
+    text = ctypes.create_string_buffer(ROOM)
+    length = ctypes.c_uint64()
     given = line.encode()
     words = (ctypes.c_uint64(0), given, ctypes.c_size_t(len(given)), ctypes.c_uint32(0), fault, text, ctypes.c_size_t(ROOM))
     if library().dn_configure_text(*words, ctypes.byref(length)) == LINE_FAULT:

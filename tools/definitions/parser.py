@@ -1,48 +1,10 @@
 """Reads equations: recursive descent, with a table of how tightly the signs bind."""
 
-from __future__ import annotations
-
-from syntax import (
-    Apply,
-    ConsPattern,
-    Elim,
-    EmptyList,
-    Equation,
-    Expression,
-    Field,
-    Infix,
-    Lambda,
-    Let,
-    Name,
-    NamePattern,
-    NilPattern,
-    Number,
-    NumberPattern,
-    Pattern,
-    Record,
-)
+import syntax
 from tokens import NotUnderstood, Token, tokens
 
-BINDING = {
-    ">>=": 0,
-    "→": 0,
-    "⊎": 1,
-    "×": 2,
-    "≡": 3,
-    "≤": 3,
-    "<": 3,
-    "||": 4,
-    "&&": 5,
-    "==": 6,
-    "++": 7,
-    "∷": 8,
-    "+": 9,
-    "-": 9,
-    "*": 10,
-    "/": 10,
-    "%": 10,
-    "^": 11,
-}
+SIGNS = ">>= →", "⊎", "×", "≡ ≤ <", "||", "&&", "==", "++", "∷", "+ -", "* / %", "^"  # from the loosest to the tightest
+BINDING = {sign: place for place, group in enumerate(SIGNS) for sign in group.split()}
 TO_THE_RIGHT = {"→", "⊎", "×", "++", "∷", "^"}
 KEYWORDS = {"let", "in", "elim", "record"}
 
@@ -71,7 +33,7 @@ class Parser:
         self.place += taken
         return taken
 
-    def equation(self) -> Equation:
+    def equation(self) -> syntax.Equation:
         name, patterns = self.take(), []
         while self.next.text != "=":
             patterns.append(self.pattern_atom())
@@ -79,16 +41,16 @@ class Parser:
         body = self.expression()
         if self.next.kind != "end":
             raise NotUnderstood(f"the equation of {name} goes on: {self.next.text}")
-        return Equation(name, tuple(patterns), body)
+        return syntax.Equation(name, tuple(patterns), body)
 
-    def expression(self, least: int = 0) -> Expression:
+    def expression(self, least: int = 0) -> syntax.Expression:
         left = self.application()
         while self.next.kind == "sign" and BINDING.get(self.next.text, -1) >= least:
             sign = self.take()
-            left = Infix(sign, left, self.expression(BINDING[sign] + (sign not in TO_THE_RIGHT)))
+            left = syntax.Infix(sign, left, self.expression(BINDING[sign] + (sign not in TO_THE_RIGHT)))
         return left
 
-    def application(self) -> Expression:
+    def application(self) -> syntax.Expression:
         if self.take_if("let"):
             return self.let()
         if self.take_if("λ"):
@@ -98,64 +60,66 @@ class Parser:
         head, arguments = self.atom(), []
         while self.begins_an_atom():
             arguments.append(self.atom())
-        return Apply(head, tuple(arguments)) if arguments else head
+        return syntax.Apply(head, tuple(arguments)) if arguments else head
 
-    def let(self) -> Let:
+    def let(self) -> syntax.Let:
         name = self.take()
         self.take("=")
         value = self.expression()
         self.take("in")
-        return Let(name, value, self.expression())
+        return syntax.Let(name, value, self.expression())
 
-    def function(self) -> Lambda:
+    def function(self) -> syntax.Lambda:
         names = [self.take()]
         while not self.take_if("."):
             names.append(self.take())
-        return Lambda(tuple(names), self.expression())
+        return syntax.Lambda(tuple(names), self.expression())
 
-    def elim(self) -> Elim:
-        value, cases = self.atom(), list[tuple[Pattern, Expression]]()
+    def elim(self) -> syntax.Elim:
+        value = self.atom()
+        cases = list[tuple[syntax.Pattern, syntax.Expression]]()
         self.take("[")
         while not cases or self.take_if("|"):
             pattern = self.pattern()
             self.take("↦")
             cases.append((pattern, self.expression()))
         self.take("]")
-        return Elim(value, tuple(cases))
+        return syntax.Elim(value, tuple(cases))
 
     def begins_an_atom(self) -> bool:
         kind, text = self.next
         is_name = kind == "name" and (text == "record" or text not in KEYWORDS)
         return is_name or kind in ("number", "text") or kind == "sign" and text in "([⊤⊥"
 
-    def atom(self) -> Expression:
+    def atom(self) -> syntax.Expression:
         kind, text = self.next
-        found: Expression
+        found: syntax.Expression
         if kind == "number":
-            found = Number(int(self.take()))
+            found = syntax.Number(int(self.take()))
         elif kind == "text":
-            found = EmptyList()
+            found = syntax.EmptyList()
             for byte in reversed(self.take()[1:-1].encode()):
-                found = Infix("∷", Number(byte), found)
+                found = syntax.Infix("∷", syntax.Number(byte), found)
         elif self.take_if("record"):
             found = self.record()
         elif kind == "name" and text not in KEYWORDS or text in ("⊤", "⊥"):
-            found = Name(self.take())
+            found = syntax.Name(self.take())
         elif self.take_if("["):
             self.take("]")
-            found = EmptyList()
+            found = syntax.EmptyList()
         else:
             self.take("(")
             found = self.expression()
             if self.take_if(","):  # a pair is a record of the fields 0 and 1
-                found = Record(None, (("0", found), ("1", self.expression())))
+                found = syntax.Record(None, (("0", found), ("1", self.expression())))
             self.take(")")
         while self.next.kind == "field":
-            found = Field(found, self.take())
+            found = syntax.Field(found, self.take())
         return found
 
-    def record(self) -> Record:
-        base, fields = None if self.next.text == "{" else self.atom(), []
+    def record(self) -> syntax.Record:
+        base = None if self.next.text == "{" else self.atom()
+        fields = []
         self.take("{")
         while not self.take_if("}"):
             name = self.take()
@@ -163,26 +127,26 @@ class Parser:
             fields.append((name, self.expression()))
             if self.next.text != "}":
                 self.take(";")
-        return Record(base, tuple(fields))
+        return syntax.Record(base, tuple(fields))
 
-    def pattern(self) -> Pattern:
+    def pattern(self) -> syntax.Pattern:
         if self.next.kind == "name":
             name, parts = self.take(), []
             while self.next.kind in ("name", "number") or self.next.text in ("(", "["):
                 parts.append(self.pattern_atom())
-            head: Pattern = NamePattern(name, tuple(parts))
+            head: syntax.Pattern = syntax.NamePattern(name, tuple(parts))
         else:
             head = self.pattern_atom()
-        return ConsPattern(head, self.pattern()) if self.take_if("∷") else head
+        return syntax.ConsPattern(head, self.pattern()) if self.take_if("∷") else head
 
-    def pattern_atom(self) -> Pattern:
+    def pattern_atom(self) -> syntax.Pattern:
         if self.take_if("("):
             inner = self.pattern()
             self.take(")")
             return inner
         if self.take_if("["):
             self.take("]")
-            return NilPattern()
+            return syntax.NilPattern()
         if self.next.kind not in ("number", "name"):
             raise NotUnderstood(f"a pattern wanted: {self.next.text}")
-        return NumberPattern(int(self.take())) if self.next.kind == "number" else NamePattern(self.take(), ())
+        return syntax.NumberPattern(int(self.take())) if self.next.kind == "number" else syntax.NamePattern(self.take(), ())

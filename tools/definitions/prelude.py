@@ -1,8 +1,6 @@
 """The words of the standard library that specs use, and the signs between two values."""
 
-from __future__ import annotations
-
-from collections.abc import Callable
+from collections.abc import Callable, Iterator
 from functools import reduce
 from itertools import takewhile
 from typing import Any
@@ -59,70 +57,6 @@ def drop(count: int, values: Value) -> Value:
     return values
 
 
-@word(2, "map")
-def mapped(function: Value, values: Value) -> Value:
-    return to_list([apply(function, value) for value in items(values)])
-
-
-@word(2, "filter")
-def filtered(function: Value, values: Value) -> Value:
-    return to_list([value for value in items(values) if apply(function, value)])
-
-
-@word(2)
-def count_by(function: Value, values: Value) -> int:
-    count = 0
-    for value in items(values):
-        count += bool(apply(function, value))
-    return count
-
-
-@word(2)
-def position_or_len(function: Value, values: Value) -> int:
-    place = 0
-    for value in items(values):
-        if apply(function, value):
-            return place
-        place += 1
-    return place
-
-
-@word(2)
-def list_any(function: Value, values: Value) -> bool:
-    for value in items(values):
-        if apply(function, value):
-            return True
-    return False
-
-
-@word(2, "All")
-def of_all(function: Value, values: Value) -> bool:
-    for value in items(values):
-        if not apply(function, value):
-            return False
-    return True
-
-
-@word(2)
-def list_all(function: Value, values: Value) -> bool:
-    return bool(of_all(function, values))
-
-
-@word(2)
-def take_while(function: Value, values: Value) -> Value:
-    return to_list(takewhile(lambda value: apply(function, value), items(values)))
-
-
-@word(2)
-def prefix_len(function: Value, values: Value) -> int:
-    return sum(1 for _ in takewhile(lambda value: apply(function, value), items(values)))
-
-
-@word(2)
-def before_first(function: Value, values: Value) -> Value:
-    return to_list(takewhile(lambda value: not apply(function, value), items(values)))
-
-
 @word(2)
 def slice_split(function: Value, values: Value) -> Value:
     parts: list[list[Value]] = [[]]
@@ -134,33 +68,31 @@ def slice_split(function: Value, values: Value) -> Value:
     return to_list(to_list(part) for part in parts)
 
 
-@word(2)
-def digits_value(radix: int, text: Value) -> int:
-    return reduce(lambda sum_of, byte: sum_of * radix + int(chr(byte), 36), [*items(text)], 0)
+def first_of(values: Value, other: Value, then: Callable[[Value], Value]) -> Value:
+    """Returns what follows from a list's head or an option's value; for an empty one, the other value."""
+    return then(values.parts[0]) if isinstance(values, Data) and values not in (NIL, NONE) else other
 
 
-@word(2)
-def slice_index(values: Value, place: int) -> Value:
-    rest = drop(place, values)
-    return rest.parts[0] if isinstance(rest, Data) and rest is not NIL else 0
+def before(function: Value, values: Value, is_so: bool = True) -> Iterator[Value]:
+    """Yields the values before the first one for which the function's result differs."""
+    return takewhile(lambda value: bool(apply(function, value)) == is_so, items(values))
 
 
-@word(2)
-def slice_get(values: Value, place: int) -> Value:
-    rest = drop(place, values)
-    return some(rest.parts[0]) if isinstance(rest, Data) and rest is not NIL else NONE
-
-
-@word(2)
-def option_map(function: Value, option: Value) -> Value:
-    return some(apply(function, option.parts[0])) if isinstance(option, Data) and option is not NONE else NONE
-
-
-@word(2)
-def option_and_then(function: Value, option: Value) -> Value:
-    return apply(function, option.parts[0]) if isinstance(option, Data) and option is not NONE else NONE
-
-
+word(2, "map")(lambda function, values: to_list([apply(function, value) for value in items(values)]))
+word(2, "filter")(lambda function, values: to_list([value for value in items(values) if apply(function, value)]))
+word(2, "count_by")(lambda function, values: sum(1 for value in items(values) if apply(function, value)))
+word(2, "list_any")(lambda function, values: any(apply(function, value) for value in items(values)))
+for name in ("All", "list_all"):
+    word(2, name)(lambda function, values: all(apply(function, value) for value in items(values)))
+word(2, "take_while")(lambda function, values: to_list(before(function, values)))
+word(2, "prefix_len")(lambda function, values: sum(1 for _ in before(function, values)))
+word(2, "before_first")(lambda function, values: to_list(before(function, values, False)))
+word(2, "position_or_len")(lambda function, values: sum(1 for _ in before(function, values, False)))
+word(2, "digits_value")(lambda radix, text: reduce(lambda sum_of, byte: sum_of * radix + int(chr(byte), 36), items(text), 0))
+word(2, "slice_index")(lambda values, place: first_of(drop(place, values), 0, lambda value: value))
+word(2, "slice_get")(lambda values, place: first_of(drop(place, values), NONE, some))
+word(2, "option_map")(lambda function, option: first_of(option, NONE, lambda value: some(apply(function, value))))
+word(2, "option_and_then")(lambda function, option: first_of(option, NONE, lambda value: apply(function, value)))
 # A difference below 0 is 0, and so is a quotient by 0, whose rest is all.
 SIGNS: dict[str, Callable[..., Any]] = {
     "+": lambda a, b: a + b,

@@ -1,7 +1,5 @@
 """The reader of histories and transcripts, and the writer of replies' records."""
 
-from __future__ import annotations
-
 from typing import NamedTuple
 
 from commands import FIELDS, NotCanonical, command

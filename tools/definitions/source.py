@@ -1,7 +1,5 @@
 """The reader of a crate's specs, and of the types in its sources."""
 
-from __future__ import annotations
-
 import re
 from dataclasses import dataclass, field
 from pathlib import Path

@@ -1,7 +1,5 @@
 """The tokens of specs."""
 
-from __future__ import annotations
-
 import re
 from typing import NamedTuple
 

@@ -27,7 +27,10 @@ class Function:
     __slots__ = ("arity", "run", "arguments", "is_kept")
 
     def __init__(self, arity: int, run: Callable[..., Value], arguments: tuple[Value, ...] = (), is_kept: bool = True) -> None:
-        self.arity, self.run, self.arguments, self.is_kept = arity, run, arguments, is_kept
+        self.arity = arity
+        self.run = run
+        self.arguments = arguments
+        self.is_kept = is_kept
 
 
 Constructor = Union[str, tuple[str, ...]]

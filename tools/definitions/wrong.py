@@ -1,7 +1,5 @@
 """Wrong definitions from tools/laws/wrong_definitions.py: their replies differ from the program's."""
 
-from __future__ import annotations
-
 import sys
 from pathlib import Path
 from typing import NamedTuple

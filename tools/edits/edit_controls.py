@@ -12,8 +12,6 @@ halves where together they are refused. RT is the command that checks, `rt` with
 `tools/edits/edit_controls.py --missing` needs no prover. It names the edits that add code and have no control, and the edits and the
 controls that no longer fit the sources, and ends with 'N passed, M failed'.
 """
-from __future__ import annotations
-
 import os
 import re
 import shlex

@@ -7,8 +7,6 @@ a proof file that no longer fits: look whether its goal is a promise or the name
 kind and all edits. The status is 1 if there is any other kind, among them an edit that wasn't tried or refused.
 """
 
-from __future__ import annotations
-
 import re
 import sys
 from collections import Counter

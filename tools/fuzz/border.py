@@ -11,8 +11,6 @@ takes more than ten seconds of the processor, memory or output out of proportion
 built/fuzz, and its seed is printed.
 """
 
-from __future__ import annotations
-
 import argparse
 import contextlib
 import gzip
@@ -209,15 +207,7 @@ def nets(data: bytes, rng: random.Random) -> None:
 
 
 TARGETS: dict[str, Callable[[bytes, random.Random], None]] = {
-    "captures": captures,
-    "control": control,
-    "addresses": addresses,
-    "histories": histories,
-    "summaries": summaries,
-    "nets": nets,
-    "timelines": timelines,
-    "traces": traces,
-    "frames": frames,
+    target.__name__: target for target in (captures, control, addresses, histories, summaries, nets, timelines, traces, frames)
 }
 
 
@@ -228,7 +218,8 @@ def changed(data: bytes, rng: random.Random, others: list[bytes]) -> bytes:
         data = gzip.decompress(data) if packed else data
     found = bytearray(data)
     for _ in range(rng.choice((1, 1, 2, 4, 8))):
-        at, other = rng.randrange(len(found) + 1), rng.choice(others)
+        at = rng.randrange(len(found) + 1)
+        other = rng.choice(others)
         begin = rng.randrange(len(other) + 1)
         size = rng.choice((1, 1, 2, 4, 16, 60))
         kind = rng.randrange(8)
@@ -316,7 +307,8 @@ def main(tally: Tally, *words: str) -> None:
     parser.add_argument("count", type=int)
     parser.add_argument("names", nargs="*", choices=[*TARGETS, []], metavar="NAME")
     asked = parser.parse_args(words)
-    found, seed = TOP / "built" / "fuzz", seeds.chosen(asked.seed, *seeds.KIT)
+    found = TOP / "built" / "fuzz"
+    seed = seeds.chosen(asked.seed, *seeds.KIT)
     found.mkdir(parents=True, exist_ok=True)
     for number in (signal.SIGALRM, signal.SIGPROF):
         signal.signal(number, ended_by_the_clock)

@@ -6,8 +6,6 @@ COUNT packet files and COUNT lines are drawn. Each reader's answer is the rows, 
 or wrong at a word. The seed follows from the sources of the readers, or is N, or a new one by `--seed fresh`. It needs cargo.
 """
 
-from __future__ import annotations
-
 import argparse
 import random
 import re
@@ -152,7 +150,8 @@ def main(tally: Tally, program: str, *words: str) -> None:
     parser.add_argument("--seed")
     parser.add_argument("count", type=int)
     asked = parser.parse_args(words)
-    seed, program = seeds.chosen(asked.seed, *READERS), str(Path(program).resolve())
+    seed = seeds.chosen(asked.seed, *READERS)
+    program = str(Path(program).resolve())
     rng = random.Random(seed)
     files = [random_file(rng) for _ in range(asked.count)]
     lines = [random_line(rng).replace("\n", " ") for _ in range(asked.count)]

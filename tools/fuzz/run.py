@@ -9,8 +9,6 @@ sanitizers for addresses and undefined behaviour. An input that crashes, hangs f
 built/fuzz. With --keep the kept inputs are those that reach the most with the least bytes. It takes clang and libFuzzer.
 """
 
-from __future__ import annotations
-
 import argparse
 import os
 import re
@@ -108,7 +106,8 @@ def main(tally: Tally, *words: str) -> None:
     parser.add_argument("count", type=int)
     parser.add_argument("names", nargs="*", choices=[*TARGETS, []], metavar="NAME")
     asked = parser.parse_args(words)
-    folder, seed = TOP / "built" / "fuzz", seeds.chosen(asked.seed, *seeds.HOSTS)
+    folder = TOP / "built" / "fuzz"
+    seed = seeds.chosen(asked.seed, *seeds.HOSTS)
     folder.mkdir(parents=True, exist_ok=True)
     for name in asked.names or TARGETS:
         tally.note(name, faults(name, asked.count, seed, folder))

@@ -3,8 +3,6 @@
     python3 tools/gate/archive.py
 """
 
-from __future__ import annotations
-
 import os
 import re
 import tarfile
@@ -45,7 +43,7 @@ def main(tally: Tally) -> None:
     tally.equal("leftovers among them", [], [name for name in listed if LEFTOVER.fullmatch(name)])
     refused = run(SCRIPT, "9.9.9", first)
     advice = "9.9.9: no such version or revision: CHANGELOG.md lists the versions\n"
-    tally.equal("a version that isn't", (1, advice), (refused.returncode, refused.stdout))
+    tally.ends("a version that isn't", refused, 1, advice)
 
 
 if __name__ == "__main__":

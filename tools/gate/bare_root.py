@@ -8,8 +8,6 @@ what `rt ci` keeps. The repository is a copy whose release/ has this program and
 `./check --quick` leaves out there is printed, and it may take four minutes of a processor.
 """
 
-from __future__ import annotations
-
 import os
 import re
 import resource
@@ -83,7 +81,8 @@ def quick(tally: Tally, root: Path) -> None:
     tally.equal("git commit", "", run(root, BY_NOBODY.format(f"cd clone && {COMMIT}")))
     begun = processor_seconds()
     text = run(root, BY_NOBODY.format("cd clone && ./check --quick"))
-    seconds, last = processor_seconds() - begun, (text.strip().splitlines() or ["no line"])[-1]
+    seconds = processor_seconds() - begun
+    last = (text.strip().splitlines() or ["no line"])[-1]
     tally.note("./check --quick", "" if re.match(r"[1-9]\d* passed, 0 failed", last) else text)
     tally.note("processor time", "" if seconds <= MOST else f"{seconds:.0f} s, more than {MOST}")
     tally.equal("git status", "", run(root, BY_NOBODY.format("cd clone && git status --porcelain")))

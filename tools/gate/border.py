@@ -7,8 +7,6 @@ one that imports a module which MODULES doesn't list, leaves the place of a temp
 argparse's Namespace, but for commands and the modules that give it options. Lines that do each of this are planted, and must be refused.
 """
 
-from __future__ import annotations
-
 import ast
 from pathlib import Path
 from typing import Iterator
@@ -88,7 +86,10 @@ HARMLESS = (
     "import json, os, sys, tempfile\nsys.stdout.flush()\njson.dumps(1)\nos.path.exists('x')\nlines.opened('x')\n"
     "def run(input): return input\ntempfile.TemporaryFile(dir='x')"
 )
-OWN, PIPE, OUTPUT, SYSTEM = "a file of its own", "a pipe of its own", "within `written`", "the system's own"
+OWN = "a file of its own"
+PIPE = "a pipe of its own"
+OUTPUT = "within `written`"
+SYSTEM = "the system's own"
 NAMED, PAGES, LINES = "a folder that the user names", "a file that the border has opened", "lines that the border gives out"
 LOADED, WAITS = "a module of the kit or of what it needs", "a thread that waits for the kit's own processes or for the user"
 ALLOWED = {  # of each module, by the reason
@@ -96,7 +97,6 @@ ALLOWED = {  # of each module, by the reason
     "captures/addresses.py": {OUTPUT: "write_text", LINES: "csv.reader"},
     "captures/capture_file.py": {PAGES: "mmap.mmap"},
     "captures/capture_reader.py": {PAGES: "mmap.mmap"},
-    "captures/far_end.py": {OUTPUT: "open"},
     "captures/through.py": {OUTPUT: "open"},
     "command.py": {LOADED: "importlib.import_module", "a standard stream that was closed": "open", WAITS: "threading.Timer"},
     "commands/docs.py": {"the kit's own pages": "read_text"},
@@ -122,7 +122,7 @@ ALLOWED = {  # of each module, by the reason
     "run/rtnetlink.py": {"the kernel's answer": "recv"},
     "run/system.py": {"calls of the system that Python lacks": "ctypes.CDLL", SYSTEM: "open"},
     "run/users.py": {PIPE: "os.read"},
-    "searches/losses.py": {OWN: "open"},
+    "searches/cause.py": {OWN: "open"},
     "searches/runs.py": {NAMED: "mkdir", OWN: "read_text", WAITS: "concurrent.futures.ThreadPoolExecutor"},
     "simulated/build.py": {OWN: "shutil.copyfile mkdir read_text write_text", "an old kernel of its own": "shutil.rmtree"},
     "simulated/calls_kept.py": {OWN: "read_text"},
@@ -249,7 +249,9 @@ def measured() -> set[str]:
 
 def note_readers(tally: Tally, names: set[str]) -> None:
     """Each module that reads is measured, or said why not; one that doesn't read any more is in no list."""
-    tally.note("planted: a reader that nobody measures", *["it isn't seen"] * (readers(ast.parse(READER)) != {"read_text"}))
+    tally.note(
+        "planted: a reader that nobody measures", *(["it isn't seen"] if readers(ast.parse(READER)) != {"read_text"} else [])
+    )
     listed = measured() | set(" ".join(OTHERS.values()).split())
     tally.note("readers", *(f"{name}: neither {MEASURED} nor OTHERS has it" for name in sorted(names - listed)))
     tally.note("what is measured", *(f"{name}: it reads nothing any more" for name in sorted(listed - names)))
@@ -269,7 +271,7 @@ def planted() -> Iterator[tuple[str, str]]:
 def note_planted(tally: Tally) -> None:
     for text, what in planted():
         found = {one for _, one in crossings(ast.parse(text))}
-        tally.note(f"planted: {text}", *[f"{what} isn't refused, but {found or 'nothing'}"] * (what not in found))
+        tally.note(f"planted: {text}", *([f"{what} isn't refused, but {found or 'nothing'}"] if what not in found else []))
     tally.note("harmless lines", *(f"line {line}: {what}" for line, what in crossings(ast.parse(HARMLESS))))
 
 

@@ -8,8 +8,6 @@ examples' replays. c_library/audit.c audits each in parts of some length, with a
 turn. It is compiled with the sanitizers for addresses and undefined behaviour.
 """
 
-from __future__ import annotations
-
 import os
 import subprocess
 from collections import Counter
@@ -70,7 +68,8 @@ def main(tally: Tally, dummynet: str, seed: str, count: str) -> None:
     ends, number = Counter[str](), 0
     os.environ["ASAN_OPTIONS"] = "detect_leaks=1"
     print(f"seed {seed}", flush=True)
-    audit, file = program(tally.place, "audit", *REFUSING), tally.place / "history"
+    audit = program(tally.place, "audit", *REFUSING)
+    file = tally.place / "history"
     for name, (text, wanted) in CASES.items():
         for step in range(1, len(text) + 2):
             tally.equal(f"{name}, parts of {step}", wanted, from_c(audit, text, step, LIMIT, "growths"))

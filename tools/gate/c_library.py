@@ -7,8 +7,6 @@ compiled with the sanitizers for addresses and undefined behaviour, and with war
 reference's is tried from Python, whose structs are the header's (python/tests/test_scenarios.py and test_header.py).
 """
 
-from __future__ import annotations
-
 import os
 import subprocess
 from pathlib import Path

@@ -10,8 +10,6 @@ threads and with the installed suppressions, reports only a race in the program 
 leaks; tools/gate/senders.py shows that it stays flat.
 """
 
-from __future__ import annotations
-
 import os
 import shutil
 import subprocess
@@ -33,15 +31,8 @@ from tally import Tally, judge, ran
 MOST_CALLERS = 15
 CALLS = 120  # of a caller
 COMMON = ["-std=c99", "-Wall", "-Wextra", "-Werror", "-g", "-O1", "-fno-sanitize-recover=all", "-pthread"]
-KINDS = {
-    "queued": "queued",
-    "lost": "lost",
-    "full": "full",
-    "no-target": "without target",
-    "no-such-pipe": "refused",
-    "pipe-has-queues": "refused",
-    "no-such-queue": "refused",
-}
+KINDS = {"queued": "queued", "lost": "lost", "full": "full", "no-target": "without target"}
+KINDS.update(dict.fromkeys(("no-such-pipe", "pipe-has-queues", "no-such-queue"), "refused"))
 SUPPRESSIONS = HEADER.parent / "hingetulip.tsan"
 TOLD = ("calls", "queued", "lost", "full", "without target", "delivered", "refused", "shown")
 
@@ -66,7 +57,8 @@ def line_of(rng: Random, call: Call) -> str:
     if isinstance(call, Configure):
         return f"f {spell(rng, call.command)}"
     if isinstance(call, Submit):
-        packet, is_queue = call.packet, int(call.target.kind == "queue")
+        packet = call.packet
+        is_queue = int(call.target.kind == "queue")
         return " ".join(map(str, ("p", call.moment, is_queue, call.target.number, *packet.tuple, packet.len, packet.word)))
     return "s" if isinstance(call, Show) else f"{'a' if isinstance(call, Advance) else 'c'} {call.moment}"
 
@@ -111,7 +103,7 @@ def tried(tally: Tally, name: str, made: Path, place: Path, audit: str, calls: l
     history = place / "history"
     done = ran(made, history, *calls, errors="replace")
     text = history.read_text()
-    tally.equal(f"{name}: what the callers were told", (0, wanted(text, len(calls))), (done.returncode, done.stdout))
+    tally.ends(f"{name}: what the callers were told", done, 0, wanted(text, len(calls)))
     entries = sum(one["calls"] for one in told_by(text).values())
     judged = ran(audit, "audit", history)
     tally.equal(f"{name}: the audit", f"lawful {entries}", judged.stdout.strip())

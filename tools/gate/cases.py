@@ -6,8 +6,6 @@ tools/oracle/program_cases.py has the cases. PROGRAM may have several words, as 
 a separate folder with its files.
 """
 
-from __future__ import annotations
-
 import os
 import shlex
 import subprocess

@@ -4,8 +4,6 @@ Its output goes into a file. What a failed test left running would hold a pipe, 
 a separate process group, which ends afterwards. What takes another group is left to whoever began it.
 """
 
-from __future__ import annotations
-
 import os
 import signal
 import subprocess

@@ -6,8 +6,6 @@ Each form, each status from 0 to 6, help and version, broken pipes, full devices
 unreadable or folders, lines that end in CR LF, and byte order marks. What is wanted stands here in full, from docs/FILES.md.
 """
 
-from __future__ import annotations
-
 import os
 import shutil
 import subprocess
@@ -16,7 +14,7 @@ from pathlib import Path
 from tempfile import TemporaryDirectory
 from typing import Optional
 
-from tally import Tally, judge
+from tally import Tally, judge, lacks
 
 HEADER = "moment,target,number,src,dst,proto,sport,dport,len,word\n"
 ROW = "0,pipe,1,10.0.0.1,10.0.0.2,17,1000,2000,1000,0\n"
@@ -244,11 +242,7 @@ def texts(tally: Tally, program: str) -> None:
         done = run(program, replay("--most-packets", "9", "--callers", "2"), folder, "")
         tally.equal("the words of a limit of callers", LIMITED, done.stderr.decode()[: len(LIMITED)])
         done = run(program, [os.fsdecode(b"\xff")], folder, "")
-        tally.equal(
-            "an argument that isn't UTF-8",
-            (2, b"", b"error: an argument isn't UTF-8\n"),
-            (done.returncode, done.stdout, done.stderr),
-        )
+        tally.ends("an argument that isn't UTF-8", done, 2, b"", b"error: an argument isn't UTF-8\n")
 
 
 def devices(tally: Tally, program: str) -> None:
@@ -272,9 +266,9 @@ def devices(tally: Tally, program: str) -> None:
             done = run(program, [word], folder, "", stdout=full)
             tally.equal(f"{word} to a full device", (0, b""), (done.returncode, done.stderr))
         done = run(program, ["replay", "none", "p"], folder, "", stderr=full)
-        tally.equal("a fault line to a full device", (6, b""), (done.returncode, done.stdout))
+        tally.ends("a fault line to a full device", done, 6, b"")
         done = subprocess.run(["sh", "-c", 'ulimit -s 160; exec "$0" replay c p', program], cwd=folder, capture_output=True)
-        tally.equal("160 Kbytes of stack", (0, REPORT.encode(), b""), (done.returncode, done.stdout, done.stderr))
+        tally.ends("160 Kbytes of stack", done, 0, REPORT.encode(), b"")
         done = run(program, replay("--history", "/dev/stdout"), folder, "")
         tally.equal("a history after the report in one pipe", (REPORT + HISTORY).encode(), done.stdout)
         with open(Path(folder) / "both", "wb") as both:
@@ -286,9 +280,7 @@ def devices(tally: Tally, program: str) -> None:
         )
         for name, form, begun in (("", "", b""), (" of a live session", "live", b"dummynet-live,1\n")):
             done = subprocess.run(["sh", "-c", f'exec "$0" {form} <&-', program], cwd=folder, capture_output=True)
-            tally.equal(
-                f"standard input{name} closed", (6, begun, b"cannot read input\n"), (done.returncode, done.stdout, done.stderr)
-            )
+            tally.ends(f"standard input{name} closed", done, 6, begun, b"cannot read input\n")
 
 
 def short_writes(tally: Tally, program: str) -> None:
@@ -358,8 +350,7 @@ def links(tally: Tally, program: str) -> None:
 def rights(tally: Tally, program: str) -> None:
     """Files that may not be read or written, by a user to whom that matters."""
     drop = ["setpriv", "--reuid=65534", "--regid=65534", "--clear-groups"] if os.geteuid() == 0 else []
-    if drop and shutil.which(drop[0]) is None:
-        print("rights of files: skipped, since there is no setpriv on the path")
+    if lacks("rights of files", *drop[:1]):
         return
     with TemporaryDirectory() as folder:
         os.chmod(folder, 0o755)

@@ -3,8 +3,6 @@
     python3 tools/gate/contributing.py
 """
 
-from __future__ import annotations
-
 import re
 
 from tally import TOP, Tally, judge, ran

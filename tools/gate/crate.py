@@ -7,8 +7,6 @@ All is done offline, with the C library of the present sources, as tools/release
 Debian's crates, where they are installed.
 """
 
-from __future__ import annotations
-
 import os
 import re
 import shutil
@@ -16,11 +14,12 @@ import sys
 import tarfile
 from pathlib import Path
 
-from tally import TOP, Ran, Tally, judge, ran
+from tally import TOP, Ran, Tally, judge, lacks, ran
 
 from hingetulip_words.link import Place, WordError, read_words
 
-RUST, DEBIAN = TOP / "rust", Path("/usr/share/cargo/registry")
+RUST = TOP / "rust"
+DEBIAN = Path("/usr/share/cargo/registry")
 SOURCE = f'[source.crates-io]\nreplace-with = "debian"\n[source.debian]\ndirectory = "{DEBIAN}"\n'
 VERSION = (TOP / "VERSION").read_text().strip()
 MANIFEST = '[package]\nname = "user"\nversion = "0.1.0"\nedition = "2021"\n\n[dependencies]\nhingetulip = {{ path = "{}" }}\n'
@@ -108,8 +107,7 @@ def of_the_sources(tally: Tally, cargo: Cargo, crate: Path, library: str, *optio
     tally.note(f"cargo test of {crate.name}", "" if done.returncode == 0 and len(counts) == binaries else done.stdout)
     tally.passed += sum(map(int, counts))
     for name, *words in (("cargo doc", "doc", "--no-deps"), ("cargo clippy", "clippy", "--all-targets")):
-        if words[0] == "clippy" and shutil.which("cargo-clippy") is None:
-            print("clippy: skipped, since it isn't on the path")
+        if words[0] == "clippy" and lacks("clippy", "cargo-clippy"):
             continue
         done = cargo.run(crate, *words, *options, HINGETULIP_LIB=library)
         tally.note(f"{name} of {crate.name}", "" if done.returncode == 0 else done.stdout)
@@ -156,7 +154,7 @@ def words_of_python(tally: Tally) -> None:
 
 def as_in_python(tally: Tally, user: Path, done: Ran) -> None:
     told = ran(sys.executable, "-c", IN_PYTHON, cwd=user, env={**os.environ, "PYTHONPATH": str(TOP / "python")}, stderr=None)
-    tally.equal("the report of a program over the packed crate", (0, told.stdout), (done.returncode, done.stdout))
+    tally.ends("the report of a program over the packed crate", done, 0, told.stdout)
     if done.returncode == 0 and told.returncode == 0:
         same = (user / "rust.history").read_bytes() == (user / "python.history").read_bytes()
         tally.note("its history", "" if same else "isn't Python's")

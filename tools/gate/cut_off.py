@@ -7,8 +7,6 @@ It needs cc, for the preload that kills (tools/gate/killed_writes.c). The progra
 Python's service writes a history. A transcript of hinge-link, whose moments are a clock's, is audited alone.
 """
 
-from __future__ import annotations
-
 import itertools
 import subprocess
 import sys
@@ -111,7 +109,7 @@ class Kills:
             if case.repeats and not whole[name].startswith(self.content(name))
         ]
         history = self.content(case.history)
-        return found + [self.audit(mended(history))] * (history.count(b"\nc,") > 1)
+        return found + ([self.audit(mended(history))] if history.count(b"\nc,") > 1 else [])
 
     def try_each(self, case: Case, tally: Tally) -> None:
         """Each write in turn, until one isn't there."""

@@ -5,8 +5,6 @@
 Each public item of a crate that users call has one. It reads the sources alone.
 """
 
-from __future__ import annotations
-
 import re
 from pathlib import Path
 from typing import Iterator, NamedTuple

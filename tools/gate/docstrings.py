@@ -5,8 +5,6 @@
 In what users import, a function that raises has a docstring.
 """
 
-from __future__ import annotations
-
 import ast
 import re
 from pathlib import Path
@@ -49,7 +47,8 @@ def faults(path: Path) -> Iterator[str]:
         for node in ast.iter_child_nodes(holder) if not isinstance(holder, Function) else ():
             if not isinstance(node, Function) or node.name.startswith("_"):
                 continue
-            text, place = ast.get_docstring(node) or "", f"{name}:{node.lineno}: {node.name}"
+            text = ast.get_docstring(node) or ""
+            place = f"{name}:{node.lineno}: {node.name}"
             unnamed = [it for it in sorted(raised(node)) if not re.search(rf"\b{it}\b", text)]
             if unnamed and (text or name.startswith(IMPORTED)):
                 yield f"{place} doesn't name {', '.join(unnamed)}"

@@ -11,8 +11,6 @@ Verdicts are kept between runs on a machine; --anew tries all. The libraries bel
 have changed. With --built they are taken as `rt ci` has just left them, in a clone in which nothing else was built.
 """
 
-from __future__ import annotations
-
 import resource
 import time
 from collections import Counter

@@ -6,8 +6,6 @@
 options compile the programs in these pages, and the page's Python session, its simulation and the module's tests run.
 """
 
-from __future__ import annotations
-
 import os
 import re
 import shutil
@@ -17,7 +15,7 @@ from pathlib import Path
 from tempfile import TemporaryDirectory
 
 import pytests
-from tally import TOP, Ran, Tally, judge, ran
+from tally import TOP, Ran, Tally, judge, lacks, ran
 
 PAGE = (TOP / "docs" / "EMBEDDING.md").read_text()
 MANUAL = TOP / "docs" / "hingetulip.3"
@@ -27,19 +25,9 @@ FIRST, LOOP, THREADS, SIMULATION = (EXAMPLES / name for name in ("first.c", "sim
 PROGRAM = os.environ.get("DUMMYNET", TOP / "release" / "dummynet")
 HELPERS = "tests tests/run tests/kit_tests tests/simulated"  # the folders of python/ that pytest searches, without python/ itself
 WARNINGS = ["-Wall", "-Wextra", "-Werror"]
-INSTALLED = [
-    "include/hingetulip.h",
-    "include/hingetulip_service.h",
-    "lib/cmake/Hingetulip/HingetulipConfig.cmake",
-    "lib/cmake/Hingetulip/HingetulipConfigVersion.cmake",
-    "lib/libhingetulip.a",
-    "lib/libhingetulip.so",
-    "lib/libhingetulip.so.1",
-    "lib/pkgconfig/hingetulip.pc",
-    "share/hingetulip/hingetulip.tsan",
-    "share/hingetulip/installed",
-    "share/man/man3/hingetulip.3",
-]
+INSTALLED = """include/hingetulip.h include/hingetulip_service.h lib/cmake/Hingetulip/HingetulipConfig.cmake
+lib/cmake/Hingetulip/HingetulipConfigVersion.cmake lib/libhingetulip.a lib/libhingetulip.so lib/libhingetulip.so.1
+lib/pkgconfig/hingetulip.pc share/hingetulip/hingetulip.tsan share/hingetulip/installed share/man/man3/hingetulip.3""".split()
 AROUND = "#include <hingetulip.h>\n#include <stdio.h>\n#include <string.h>\nint main(void)\n{\n%s\nreturn 0;\n}\n"
 
 
@@ -81,33 +69,29 @@ def from_c(tally: Tally, prefix: Prefix) -> None:
     tally.equal("the page's C program is examples/embed/first.c", FIRST.read_text(), first)
     for source in (FIRST, LOOP):
         done = prefix.built(source, *WARNINGS)
-        tally.equal(f"examples/embed/{source.name}", (0, printed_after(f"./{source.stem}")), (done.returncode, done.stdout))
+        tally.ends(f"examples/embed/{source.name}", done, 0, printed_after(f"./{source.stem}"))
     done = prefix.built(THREADS, *WARNINGS, "-pthread")
-    tally.equal("examples/embed/threads.c", (0, printed_after("./threads")), (done.returncode, done.stdout))
+    tally.ends("examples/embed/threads.c", done, 0, printed_after("./threads"))
     done = prefix.run(PROGRAM, "audit", "threads.history")
     tally.equal("the history of threads.c", printed_after("dummynet audit"), done.stdout)
     example = re.search(r"^\.Bd -literal[^\n]*\n(.*?)^\.Ed", MANUAL.read_text(), re.M | re.S)
     source = prefix.place / "example.c"
     source.write_text(AROUND % (example[1] if example else "").replace("\\e", "\\"))
     done = prefix.built(source, *WARNINGS)
-    tally.equal(
-        "the example of hingetulip(3)",
-        (0, "packet 0 left at 21000 us\npacket 1 left at 22000 us\n"),
-        (done.returncode, done.stdout),
-    )
+    tally.ends("the example of hingetulip(3)", done, 0, "packet 0 left at 21000 us\npacket 1 left at 22000 us\n")
     [sample] = blocks("c", README.read_text())
     source.write_text(AROUND % (sample.replace("#include <hingetulip.h>\n", "") + 'printf("%d\\n", fate.outcome == DN_QUEUED);'))
     done = prefix.built(source, *WARNINGS)
-    tally.equal("the sample of the README of hingetulip_c", (0, "1\n"), (done.returncode, done.stdout))
+    tally.ends("the sample of the README of hingetulip_c", done, 0, "1\n")
 
 
 def from_python(tally: Tally, prefix: Prefix) -> None:
     session = prefix.place / "session"
     session.write_text("\n".join(blocks("python")))
     done = prefix.run(sys.executable, "-m", "doctest", session)
-    tally.equal("the page's Python session", (0, ""), (done.returncode, done.stdout))
+    tally.ends("the page's Python session", done, 0, "")
     done = prefix.run(sys.executable, SIMULATION)
-    tally.equal("the page's simulation", (0, printed_after("aimd.py")), (done.returncode, done.stdout))
+    tally.ends("the page's simulation", done, 0, printed_after("aimd.py"))
     # The prefix has the module, and the clone hinge, whose plugin of pytest is tried too.
     env = {**prefix.env, "PYTHONPATH": f"{prefix.env['PYTHONPATH']}:{TOP / 'python'}"}
     pytests.count(
@@ -140,10 +124,8 @@ def tried(tally: Tally, folder: Path, place: Path) -> None:
         sorted(INSTALLED + module + module_pages),
         sorted(str(it.relative_to(folder)) for it in folder.rglob("*") if not it.is_dir()),
     )
-    if shutil.which("pkg-config"):
+    if not lacks("the programs in C", "pkg-config"):
         from_c(tally, prefix)
-    else:
-        print("the programs in C: skipped, since there is no pkg-config on the path")
     from_python(tally, prefix)
     manual(tally, prefix)
 

@@ -3,8 +3,6 @@
     python3 tools/gate/examples.py PROGRAM
 """
 
-from __future__ import annotations
-
 import subprocess
 
 from scenes import EXAMPLES, made_scenes

@@ -9,8 +9,6 @@ has, where callers replay. The numbers are the compiler's: they change with it, 
 The check itself is tested: with a `mov` for any of these instructions in a copy of the file, it must report one store too few.
 """
 
-from __future__ import annotations
-
 import platform
 import re
 import subprocess

@@ -7,8 +7,6 @@ nobody sees proves nothing: where each growth is refused, one test at least has 
 at least has to make a call again. tools/gate/refused_growths.sh does it, over the tests that were built.
 """
 
-from __future__ import annotations
-
 import os
 import re
 

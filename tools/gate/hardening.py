@@ -6,24 +6,21 @@ The library and the program are Rattle's: no copy or index of theirs goes out of
 stack. Their tables of functions are read-only, by the linker. The library has no data of a thread, so a handle may pass to another one.
 """
 
-from __future__ import annotations
-
 import re
 import subprocess
 from pathlib import Path
 
-from tally import TOP, Tally, judge, ran
+from tally import TOP, Tally, judge, said
 
-GUARD, CHECKED = "__stack_chk_fail", re.compile(r"__\w+_chk\b")
-
-
-def said(*words: str | Path) -> str:
-    return ran(*words, is_apart=True, check=True).stdout
+GUARD = "__stack_chk_fail"
+CHECKED = re.compile(r"__\w+_chk\b")
 
 
 def lacking(file: Path, guarded: bool) -> list[str]:
     """Returns the words of tools/release/hardened that a file lacks."""
-    dynamic, headers, names = said("readelf", "-dW", file), said("readelf", "-lW", file), said("readelf", "--dyn-syms", "-W", file)
+    dynamic = said("readelf", "-dW", file)
+    headers = said("readelf", "-lW", file)
+    names = said("readelf", "--dyn-syms", "-W", file)
     found = {
         "bound before main": "NOW" in dynamic or "BIND_NOW" in dynamic,
         "read-only tables": "GNU_RELRO" in headers,

@@ -8,16 +8,13 @@ It needs cc, for a library that answers getentropy in the system's place. The co
 tools/hostile/known_key.py has the keys.
 """
 
-from __future__ import annotations
-
 import os
-import shutil
 import subprocess
 from pathlib import Path
 
 from hostile import counted, inputs
 from scenes import made_scenes
-from tally import Tally, judge, stated
+from tally import Tally, judge, lacks, stated
 
 # Each byte is KEY, or there are none where KEY isn't set.
 GIVEN = r"""
@@ -65,8 +62,7 @@ def forms_of_flows(program: str, place: Path) -> dict[str, tuple[list[str], str]
 
 
 def count_known_key(tally: Tally, program: str, place: Path) -> None:
-    if shutil.which("valgrind") is None:
-        print("the cost of a known key: skipped, since there is no valgrind on the path")
+    if lacks("the cost of a known key", "valgrind"):
         return
     inputs.write("known", FLOWS, place)
     stated(

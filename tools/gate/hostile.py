@@ -7,8 +7,6 @@ most 9 bytes of memory a byte of a history.
 The instructions are counted by valgrind, so that no other work on the machine matters. tools/hostile writes the inputs.
 """
 
-from __future__ import annotations
-
 import os
 import re
 import subprocess
@@ -194,10 +192,8 @@ def compare_memory(program: str, tally: Tally) -> None:
 
 
 def main(tally: Tally, program: str) -> None:
-    of_keys, of_audits = (
-        f"take at most {MOST} times the instructions",
-        f"an audit takes at most {AUDITED} bytes a byte of a history",
-    )
+    of_keys = f"take at most {MOST} times the instructions"
+    of_audits = f"an audit takes at most {AUDITED} bytes a byte of a history"
     stated(tally, "docs/TRUST.md", f"{of_keys} (`tools/gate/hostile.py`)", f"{of_audits} (`tools/gate/hostile.py`)")
     for name, cost in CASES.items():
         fewer, more = (cost(program, count) for count in (FEWER, 2 * FEWER))

@@ -10,8 +10,6 @@ Each script of the shell that has `cd` begins with FRONT, and the programs in Py
 begin without a blocked or ignored signal.
 """
 
-from __future__ import annotations
-
 import os
 import re
 import resource
@@ -179,9 +177,8 @@ def hosts(stack: ExitStack, folder: Path) -> Iterator[tuple[list[str], str]]:
 def check_hosts(tally: Tally, folder: Path, program: str) -> None:
     with ExitStack() as stack:
         for words, given in hosts(stack, folder):
-            name, usual = os.path.basename(words[-3] if words[0] != "env" else "hinge-clock.so"), ended(
-                words, folder, program, None, given
-            )
+            name = os.path.basename(words[-3] if words[0] != "env" else "hinge-clock.so")
+            usual = ended(words, folder, program, None, given)
             for scarcity, begin in {"a hostile parent": begin_hostile, **SCARCE}.items():
                 tally.note(f"{name}, {scarcity}", fault_of(scarcity, usual, ended(words, folder, program, begin, given)))
 
@@ -201,7 +198,8 @@ def main(tally: Tally, program: str) -> None:
     for name, text in FILES.items():
         Path(tally.place, name).write_text(text)
     for words in [*COMMANDS, INSTALL]:
-        name, usual = " ".join(words), ended(words, tally.place, program)
+        name = " ".join(words)
+        usual = ended(words, tally.place, program)
         if words != INSTALL:
             tally.equal(name, usual[:2], ended(words, tally.place, program, begin_hostile)[:2])
         for scarcity, begin in SCARCE.items():

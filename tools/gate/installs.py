@@ -7,8 +7,6 @@ the pages show are run from the installed place, in a folder that has the exampl
 What needs numpy, cmake, pkg-config, dpkg-deb or lintian is skipped, and told, where they aren't there.
 """
 
-from __future__ import annotations
-
 import ctypes
 import itertools
 import os
@@ -20,7 +18,7 @@ from hashlib import sha256
 from pathlib import Path
 from typing import Iterator, Optional
 
-from tally import TOP, Ran, Tally, judge, ran
+from tally import TOP, Ran, Tally, judge, lacks, ran
 from version import found, spelled
 
 VERSION = (TOP / "VERSION").read_text().strip()
@@ -87,8 +85,7 @@ def copied(place: Path, program: str) -> Path:
 
 def with_hosts(tally: Tally, copy: Path) -> None:
     """The programs in C that hinge runs, in the copy's release, where there is a compiler."""
-    if shutil.which("cc") is None:
-        print("hinge-link, hinge-packets and hinge-clock.so: skipped, since there is no cc on the path")
+    if lacks("hinge-link, hinge-packets and hinge-clock.so", "cc"):
         return
     done(tally, "tools/release/hosts release", copy / "tools" / "release" / "hosts", "release")
 
@@ -135,7 +132,7 @@ def pages(tally: Tally, place: Path, folder: Path) -> None:
         for line in found:
             wanted = next((status for begin, status in STATUSES.items() if line.startswith(begin)), 0)
             done(tally, f"{page}: {line}", "sh", "-c", line, cwd=folder, wanted=wanted, PATH=f"{place}/bin:{os.environ['PATH']}")
-    for left in sorted(it.name + "/" * it.is_dir() for it in folder.iterdir() if not it.is_symlink()):
+    for left in sorted(it.name + ("/" if it.is_dir() else "") for it in folder.iterdir() if not it.is_symlink()):
         tally.note(
             f"git ignores {left}",
             "" if run("git", "check-ignore", "-q", left).returncode == 0 else "in a clone it would be a new file",
@@ -256,8 +253,7 @@ def glibc(tally: Tally, copy: Path, place: Path) -> None:
 
 
 def with_cmake(tally: Tally, prefix: Path, place: Path) -> None:
-    if shutil.which("cmake") is None or shutil.which("cc") is None:
-        print("CMake: skipped, since there is no cmake or cc on the path")
+    if lacks("CMake", "cmake", "cc"):
         return
     for version, is_taken in ((VERSION, True), ("1.0", True), ("3.0", False)):
         source = place / f"cmake-{version}"
@@ -273,8 +269,7 @@ def with_cmake(tally: Tally, prefix: Path, place: Path) -> None:
 
 
 def with_pkg_config(tally: Tally, prefix: Path, lib: str, place: Path) -> None:
-    if shutil.which("pkg-config") is None or shutil.which("cc") is None:
-        print("pkg-config: skipped, since there is no pkg-config or cc on the path")
+    if lacks("pkg-config", "pkg-config", "cc"):
         return
     path = f"{prefix}/{lib}/pkgconfig"
     flags = done(tally, "pkg-config", "pkg-config", "--cflags", "--libs", "hingetulip", PKG_CONFIG_PATH=path)
@@ -305,7 +300,7 @@ def in_prefix(tally: Tally, copy: Path, place: Path) -> None:
         with open(prefix / "share" / "hingetulip" / "installed", "a") as noted:
             for path in older:
                 path.write_text(""), print(path.relative_to(prefix), file=noted)
-        done(tally, f"./install {part} over an older version", copy / "install", *[part] * bool(part), prefix)
+        done(tally, f"./install {part} over an older version", copy / "install", *([part] if part else []), prefix)
         stay = {"--all": [], "": older[1:], "--lib": older[:1]}[part]
         tally.equal(f"what ./install {part} leaves of it", stay, [path for path in older if path.exists()])
     done(tally, "./install --all once more", copy / "install", "--all", prefix)
@@ -344,8 +339,7 @@ def uninstalled(tally: Tally, copy: Path, prefix: Path) -> None:
 
 def as_packages(tally: Tally, copy: Path, place: Path) -> None:
     """Debian's packages and the tarball: the same bytes twice, and nothing that lintian calls an error."""
-    if shutil.which("dpkg-deb") is None:
-        print("Debian's packages: skipped, since there is no dpkg-deb on the path")
+    if lacks("Debian's packages", "dpkg-deb"):
         return
     sums = []
     for name in ("debs", "debs again"):
@@ -355,8 +349,7 @@ def as_packages(tally: Tally, copy: Path, place: Path) -> None:
     names = [f"hingetulip-{VERSION}-x86_64.tar.gz", *(f"{name}_{VERSION}-1_amd64.deb" for name in packages)]
     tally.equal("the packages", sorted(names), sorted(sums[0]))
     tally.equal("packages made twice", sums[0], sums[1])
-    if shutil.which("lintian") is None:
-        print("lintian: skipped, since it isn't on the path")
+    if lacks("lintian", "lintian"):
         return
     symbols(tally, copy, place)
     told = run("lintian", "--allow-root", *sorted((place / "debs").glob("*.deb"))).stdout

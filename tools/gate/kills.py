@@ -8,8 +8,6 @@ the temporary files, sockets and cgroups of a killed process, once the programs 
 themselves. Each command has to write the same bytes twice, since there is no telling else whether a file is whole.
 """
 
-from __future__ import annotations
-
 import argparse
 import ctypes
 import os
@@ -43,7 +41,8 @@ NETS = {
     "n.net": f"host {HOST} sleep 0.3\nhost b\nlink {HOST} b 1ms\n",
     "w.net": f"host {HOST} sleep 99\nhost b\nlink {HOST} b\nwait b port 7 99s\n",
 }
-CONTROL, AFTER = ["--quiet", "--control", "socket"], ["net", "n.net", "--quiet", "--control", "socket"]
+CONTROL = ["--quiet", "--control", "socket"]
+AFTER = ["net", "n.net", "--quiet", "--control", "socket"]
 LIVE = {
     "a run": ["run", *CONTROL, "--link", "1ms", "--", "sleep", "0.3"],
     "a run with ways out": ["run", *CONTROL, "--link", "1ms", "--to", "8000", "--", "sleep", "0.3"],
@@ -149,7 +148,8 @@ def faults_of(place: Place, words: list[str], outputs: list[str], new: list[byte
     was_killed = killed(place, words, after, number)
     got, left = place.read(outputs), place.left()
     found = [f"{name}: neither old nor new" for name, one, whole in zip(outputs, got, new) if one not in (OLD, whole)]
-    found += [f"left: {', '.join(sorted(place.names() ^ before))}"] * (place.names() != before)
+    if place.names() != before:
+        found.append(f"left: {', '.join(sorted(place.names() ^ before))}")
     if left and number == signal.SIGTERM and was_killed:
         found.append(f"left among the temporary files: {', '.join(left)}")
     elif left:

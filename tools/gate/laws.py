@@ -8,8 +8,6 @@ A row that passed is kept beside the verdicts on edits, under a checksum of ever
 refutation and the toolchain. A later run on this machine names such a row and doesn't try it again, unless it runs with --anew.
 """
 
-from __future__ import annotations
-
 import os
 import re
 import subprocess

@@ -5,8 +5,6 @@
 Files of up to 256 MiB are made in the folder for temporary files, and removed. PROGRAM may have several words.
 """
 
-from __future__ import annotations
-
 import os
 import shlex
 import subprocess

@@ -6,8 +6,6 @@ With --format, black checks instead that each file has the form of python/pyproj
 and the first process of simulated machines by .clang-format and .clang-tidy, which refuses variables of files, among others.
 """
 
-from __future__ import annotations
-
 from pathlib import Path
 
 from tally import TOP, Tally, judge, ran

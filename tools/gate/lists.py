@@ -7,8 +7,6 @@ between pipes, masks, losses, limits, odd and unlimited bandwidths, and earlier 
 fault and the fault's word. When 2.0.0 was made, the kept histories refused 36 of 37 slips in the reference, and no list can show the last one.
 """
 
-from __future__ import annotations
-
 import subprocess
 from pathlib import Path
 from tempfile import TemporaryDirectory

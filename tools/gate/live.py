@@ -6,8 +6,6 @@ COUNT random sessions of the seed, with bad lines, comments and questions betwee
 where each answer has to come before the next line; lines that end in CR LF; and lines at the limit of their length.
 """
 
-from __future__ import annotations
-
 import os
 import select
 import subprocess
@@ -116,19 +114,20 @@ def byte_by_byte(tally: Tally, program: str, lines: list[bytes]) -> None:
     """Checks that each answer comes as soon as its line is complete, and no earlier."""
     texts, status = session(b"".join(line + b"\n" for line in lines))
     piped = Piped(program)
-    header = piped.read(len(texts[0]))
-    tally.equal("the header comes at once", texts[0].encode(), header)
-    for line, text in zip(lines if header else [], texts[1:]):
-        early = False
-        for byte in line:
-            os.write(piped.to, bytes([byte]))
-            early = early or not piped.is_silent()
-        os.write(piped.to, b"\n")
-        answer = piped.read(len(text))
-        tally.equal(f"the answer to {line!r}", (False, text.encode()), (early, answer))
-        if len(answer) < len(text):
-            break  # each further one would be waited for as long
-    tally.equal("the end of a session", (texts[-1].encode(), status), piped.end())
+    with piped.process:  # which ends before the last line is printed, also behind a fault
+        header = piped.read(len(texts[0]))
+        tally.equal("the header comes at once", texts[0].encode(), header)
+        for line, text in zip(lines if header else [], texts[1:]):
+            early = False
+            for byte in line:
+                os.write(piped.to, bytes([byte]))
+                early = early or not piped.is_silent()
+            os.write(piped.to, b"\n")
+            answer = piped.read(len(text))
+            tally.equal(f"the answer to {line!r}", (False, text.encode()), (early, answer))
+            if len(answer) < len(text):
+                break  # each further one would be waited for as long
+        tally.equal("the end of a session", (texts[-1].encode(), status), piped.end())
 
 
 def bad_lines(tally: Tally, program: str) -> None:

@@ -1,7 +1,5 @@
 """How many provers this machine can run at once."""
 
-from __future__ import annotations
-
 import os
 import re
 from pathlib import Path

@@ -6,19 +6,13 @@ dummynet(1) names each option and each fault line, and hinge(1) each command of 
 command's help has an example that calls it.
 """
 
-from __future__ import annotations
-
 import re
 import sys
 
-from tally import TOP, Tally, judge, ran
+from tally import TOP, Tally, judge, ran, said
 
 from config_lines import NAME_OF
 from hinge.events.forms import WORDS
-
-
-def printed(*words: object) -> str:
-    return ran(*words, is_apart=True, check=True).stdout
 
 
 def page(tally: Tally, name: str) -> str:
@@ -26,7 +20,7 @@ def page(tally: Tally, name: str) -> str:
     file = TOP / "docs" / name
     lint = ran("mandoc", "-Tlint", "-Wstyle", file, is_apart=True)
     tally.equal(f"mandoc -Tlint {name}", [], lint.stdout.splitlines())
-    return re.sub(r"\s+", " ", re.sub(".\b", "", printed("mandoc", "-Tutf8", file)))
+    return re.sub(r"\s+", " ", re.sub(".\b", "", said("mandoc", "-Tutf8", file)))
 
 
 def options(text: str) -> list[str]:
@@ -47,30 +41,28 @@ def of_dummynet(tally: Tally, program: str) -> None:
         r"^\| `([^`]+)` \|", (TOP / "docs" / "FILES.md").read_text().partition("\n## Faults\n")[2].partition("\n## ")[0], re.M
     ):
         tally.note(f"fault line {line}", "" if line in text else "the manual page doesn't name it")
-    named(tally, text, "dummynet", options(printed(program, "replay", "--help")))
+    named(tally, text, "dummynet", options(said(program, "replay", "--help")))
     named(tally, text, "a line's fault", [*NAME_OF])
 
 
 def of_hinge(tally: Tally) -> None:
     hinge = (sys.executable, TOP / "hinge")
     text = page(tally, "hinge.1")
-    commands = re.findall(r"^  ([a-z-]+) ", printed(*hinge, "help"), re.M)
+    commands = re.findall(r"^  ([a-z-]+) ", said(*hinge, "help"), re.M)
     tally.note("the commands of hinge", "" if len(commands) >= 10 else f"got {commands}")
     named(tally, text, "hinge", commands)
     named(tally, text, "at TIME", [*WORDS])
     named(tally, (TOP / "docs" / "NET.md").read_text(), "docs/NET.md: at TIME", [*WORDS])
     for command in commands:
-        told = printed(*hinge, command, "--help")
+        told = said(*hinge, command, "--help")
         example = re.split(r"\nexamples?:\n", told)[-1]
         tally.note(
             f"the example of hinge {command}", "" if re.search(rf"^  hinge {command}( |$)", example, re.M) else f"got {example!r}"
         )
-        tally.equal(f"hinge help {command}", told, printed(*hinge, "help", command))
+        tally.equal(f"hinge help {command}", told, said(*hinge, "help", command))
         steps = re.findall(r"^    ([a-z]+) ", told.partition("positional arguments:")[2].partition("options:")[0], re.M)
         for words in [[command], *([command, step] for step in steps)]:
-            named(
-                tally, text, f"hinge {' '.join(words)}", options(re.split(r"\nexamples?:\n", printed(*hinge, *words, "--help"))[0])
-            )
+            named(tally, text, f"hinge {' '.join(words)}", options(re.split(r"\nexamples?:\n", said(*hinge, *words, "--help"))[0]))
 
 
 def main(tally: Tally, program: str) -> None:

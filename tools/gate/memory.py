@@ -6,8 +6,6 @@ It needs cc, for the allocator that refuses (tools/gate/refused_growths.c). Befo
 all, of a live session whole lines from its front, and an older history stays as it was.
 """
 
-from __future__ import annotations
-
 import os
 import subprocess
 from pathlib import Path

@@ -6,8 +6,6 @@ A package is installed if its command is on the path, or if Debian's list contai
 the others. With --missing their names alone are printed.
 """
 
-from __future__ import annotations
-
 import os
 import re
 import shutil

@@ -6,8 +6,6 @@ The prover has to leave the one goal open that the page names, and to prove the 
 `rt` without it.
 """
 
-from __future__ import annotations
-
 import os
 import re
 import shlex

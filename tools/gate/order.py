@@ -9,8 +9,6 @@ the same calls with one of them moved behind those that began after it returned.
 The history has no such law (docs/TRUST.md): this is a test of it.
 """
 
-from __future__ import annotations
-
 import subprocess
 from collections.abc import Sequence
 from pathlib import Path
@@ -65,7 +63,8 @@ def main(tally: Tally) -> None:
     subprocess.run(["gcc", *flags, "-o", made, SOURCE, library()], check=True)
     changes = rounds = 0
     while rounds < MOST_ROUNDS and changes < LEAST_CHANGES:
-        changes, rounds = changes + sum(look(tally, made, threads) for threads in THREADS), rounds + 1
+        changes = changes + sum(look(tally, made, threads) for threads in THREADS)
+        rounds = rounds + 1
     tally.note("all threads", "" if changes >= LEAST_CHANGES else f"the caller changes {changes} times, so little is shown")
 
 

@@ -1,7 +1,5 @@
 """The parts of the gate that use a program, after `rt ci` or without it."""
 
-from __future__ import annotations
-
 import os
 import re
 import shutil

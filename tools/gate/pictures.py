@@ -6,8 +6,6 @@ With --write they are put there. The same version of matplotlib has to draw the 
 time, whose ports may be others, or where another processor rounds otherwise. By another version more may differ.
 """
 
-from __future__ import annotations
-
 import os
 import re
 import shutil
@@ -18,7 +16,7 @@ from tempfile import TemporaryDirectory
 
 from installs import joined
 from matplotlib.image import imread
-from tally import TOP, Tally, judge
+from tally import TOP, Tally, judge, lacks
 
 PICTURES = TOP / "docs" / "pictures"
 PAGES = ("docs/CAPTURE.md", "docs/EMBEDDING.md")
@@ -42,7 +40,8 @@ def draw(block: str, place: Path) -> Path:
 
 def difference(drawn: Path, kept: Path) -> str:
     """Returns the difference of a picture, or an empty text."""
-    one, other = drawn.read_bytes(), kept.read_bytes() if kept.exists() else b""
+    one = drawn.read_bytes()
+    other = kept.read_bytes() if kept.exists() else b""
     is_same = VERSION.findall(one) == VERSION.findall(other)
     part = 0.0 if one == other else 1.0
     if part and other:
@@ -56,8 +55,7 @@ def main(tally: Tally, *words: str) -> None:
     count = 0
     for block, name in [match for page in PAGES for match in DRAWN.findall((TOP / page).read_text())]:
         count += 1
-        if "iperf3" in block and shutil.which("iperf3") is None:
-            print(f"{name}: skipped, since there is no iperf3 on the path")
+        if "iperf3" in block and lacks(name, "iperf3"):
             continue
         with TemporaryDirectory() as folder:
             drawn = draw(block, Path(folder))

@@ -7,8 +7,6 @@ A net in real time has a limit for what is late. One that is void by its own lim
 The seed follows from the sources of the kit and of the hosts, or is N, or a new one by `--seed fresh`.
 """
 
-from __future__ import annotations
-
 import argparse
 import os
 import random
@@ -57,7 +55,9 @@ class Drawn:
 
     def __init__(self, seed: int, first: int = 0, is_last: bool = True) -> None:
         """A net whose first host has this number in its file. The last net's last host has the main command."""
-        self.draw, self.first, self.is_last = random.Random(seed), first, is_last
+        self.draw = random.Random(seed)
+        self.first = first
+        self.is_last = is_last
         self.hosts = [f"h{number}" for number in range(first, first + self.draw.randint(2, 5))]
         pairs = [(one, two) for at, one in enumerate(self.hosts) for two in self.hosts[at + 1 :]]
         chain = [*zip(self.hosts, self.hosts[1:])]
@@ -72,10 +72,10 @@ class Drawn:
         chosen = [
             f"{self.draw.randint(1, 90)}Mbit/s",
             self.ms(1, 40),
-            *[f"loss {self.draw.randint(1, 30)}%"] * (not self.has_model),
+            *([f"loss {self.draw.randint(1, 30)}%"] if not self.has_model else []),
         ]
         more = [f"jitter {self.ms(1, 4)}", *(f"{word} {self.draw.randint(1, 20)}%" for word in SHARES)]
-        return " ".join([self.ms(41, 60)] * (not (kept := self.some(chosen))) + [*kept, *self.some(more)])
+        return " ".join(([self.ms(41, 60)] if not (kept := self.some(chosen)) else []) + [*kept, *self.some(more)])
 
     def change(self) -> str:
         """The words of a change, which leaves out none that a link has at its beginning."""
@@ -91,7 +91,8 @@ class Drawn:
 
     def event(self) -> str:
         one, two = self.draw.choice(self.links)
-        host, length = self.draw.choice(self.hosts), self.ms(50, 900)
+        host = self.draw.choice(self.hosts)
+        length = self.ms(50, 900)
         side = self.draw.choice(("", "up", "down"))
         act = self.draw.choice(self.hosts)
         kinds = [
@@ -123,11 +124,12 @@ class Drawn:
         lines += shared if self.draw.random() < 0.3 else []
         lines += [f"loss {one} {two} {side}gilbert:0.1,0.4" for side in self.some(["up:", "down:"]) if self.has_model]
         lines += [f"at {self.time()} {self.event()}" for _ in range(self.draw.randint(2, 9))]
-        lines += [f"at 200ms..900ms cut {one} from {two} {self.ms(50, 400)}"] * (self.draw.random() < 0.3)
+        if self.draw.random() < 0.3:
+            lines.append(f"at 200ms..900ms cut {one} from {two} {self.ms(50, 400)}")
         nemesis = self.draw.choice(("partition-one", "isolate-one", "stop-one"))
         hosts = self.hosts[: len(self.hosts) - (nemesis == "stop-one")]
-        return lines + [f"nemesis {nemesis} every 700ms for 200ms..400ms until 2s of {' '.join(hosts)}"] * (
-            self.draw.random() < 0.3
+        return lines + (
+            [f"nemesis {nemesis} every 700ms for 200ms..400ms until 2s of {' '.join(hosts)}"] if self.draw.random() < 0.3 else []
         )
 
     def run(self, folder: Path) -> list[str]:
@@ -186,7 +188,9 @@ class Transcript:
 
     def __init__(self, text: str, ways: int, undrawn: set[int]) -> None:
         """No seed alone draws the words of the packets of some pipes."""
-        self.lines, self.ways, self.undrawn = text.splitlines(), ways, undrawn
+        self.lines = text.splitlines()
+        self.ways = ways
+        self.undrawn = undrawn
         self.moments, now = list[int](), 0
         for line in self.lines:
             if (call := re.fullmatch(r"c,0,(?:submit,.*,|collect,|advance,)(\d+)", line)) is not None:
@@ -195,7 +199,8 @@ class Transcript:
 
     def configured(self) -> dict[int, tuple[str, int]]:
         """Returns the lines for links' pipes, each with its pipe and the next line's moment."""
-        result, last = dict[int, tuple[str, int]](), dict[str, int]()
+        result = dict[int, tuple[str, int]]()
+        last = dict[str, int]()
         for at, line in reversed([*enumerate(self.lines)]):
             found = re.match(r"c,0,configure,(pipe (\d+)) ", line)
             if found and int(found[2]) <= self.ways:
@@ -331,7 +336,8 @@ def of_run(history: Path) -> Judge:
 
 def changes(tally: Tally, name: str, history: Path, ways: int, judge: Callable[[], Judge], draw: random.Random) -> None:
     """Changes a transcript in each way that it allows, and has each change checked."""
-    text, undrawn = history.read_text(), judge().meaning.undrawn
+    text = history.read_text()
+    undrawn = judge().meaning.undrawn
     for kind in CHANGES:
         changed = kind(Transcript(text, ways, undrawn), draw)
         if changed is None:
@@ -348,7 +354,7 @@ def changes(tally: Tally, name: str, history: Path, ways: int, judge: Callable[[
 def session(tally: Tally, seed: int, count: int, folder: Path, limit: str = "", is_honest: bool = False) -> None:
     """Draws and runs nets in one file, or a run where there are none, and judges them, and then with changes. With a limit they run in real
     time. Void: nothing can be judged by it."""
-    name = f"{'real ' * bool(limit)}{f'{count} nets' if count else 'run'} {seed}"
+    name = f"{'real ' if limit else ''}{f'{count} nets' if count else 'run'} {seed}"
     (folder / "chat.c").write_text(CHAT)
     subprocess.run(["cc", "-static", "-O1", "-o", "chat", "chat.c"], cwd=folder, check=True)
     os.link(folder / "chat", folder / "main")
@@ -356,11 +362,14 @@ def session(tally: Tally, seed: int, count: int, folder: Path, limit: str = "", 
     if count:
         ways = nets(seed, count, folder / "a.net")
         fault = run(["net", "a.net", "--transcripts", "s", *options], folder)
-        history, judge = folder / "s" / "net.history", lambda: judged(str(folder / "s"))
+        history = folder / "s" / "net.history"
+        judge = lambda: judged(str(folder / "s"))
     else:
         server = ["--server", "exec ./chat 10.8.0.1", "--server-wait", "0ms", "--transcript", "s.history"]
-        fault, ways = run(["run", *Drawn(seed).run(folder), *options, *server, "--", "./main", "10.8.0.2"], folder), 2
-        history, judge = folder / "s.history", lambda: of_run(folder / "s.history")
+        fault = run(["run", *Drawn(seed).run(folder), *options, *server, "--", "./main", "10.8.0.2"], folder)
+        ways = 2
+        history = folder / "s.history"
+        judge = lambda: of_run(folder / "s.history")
     faults = [] if fault else [one.text for one in judge().faults]
     for _ in range(max(count, 1)):
         tally.note(name, fault, *faults)

@@ -9,8 +9,6 @@ its first fault, or with the plant's words for a slice of it. With `all`, and wi
 the defect.
 """
 
-from __future__ import annotations
-
 import os
 import shutil
 import stat
@@ -106,7 +104,7 @@ PLANTS = [
     Plant("readers that agree", "a row has another number", file="python/hingetulip/packet_file.py", old="total + row.value", new="total + row.value + 1"),
     Plant("kills of the kit's commands", "nothing is removed", words=("1",), file="python/hinge/border/scratch.py", old="if one.name.startswith(PREFIX)", new="if one.name.startswith(PREFIX * 2)"),
     Plant("the words of nets and runs", "the judge takes any random word", words=("--runs", "0", "--real", "0", "5"), file="python/hinge/plans/judged.py", old="not in wanted:", new="in ():"),
-    Plant("the notices of the crates", "a licence has another text", file="NOTICE", old="Permission is hereby granted", new="Permission is hereby Granted"),
+    Plant("the notices of the crates", "a licence has another text", file="release/NOTICE", old="Permission is hereby granted", new="Permission is hereby Granted"),
     Plant("wrong definitions", "a refutation is of no row", words=("--anew", "0"), file="tools/laws/refuted/*.proof", old="-- Wrong: ", new="-- Right: "),
     Plant("stores that are fences", "a store is a mov", file="release/libhingetulip.a", old="H\x87\x08", new="H\x89\x08"),
     Plant("plain calls in real time", "a call is told of late", file="tools/gate/rt_order.c", old="moments[caller][call].begun = now();", new="moments[caller][call].begun = now() + 1000000;"),

@@ -8,8 +8,6 @@ time. Functions of so many seconds or more are told, 2 without a number: all sec
 Search is `Proof`, the goals without an answer, and `Answers`, those with one. No answer makes the other parts shorter.
 """
 
-from __future__ import annotations
-
 import re
 import sys
 from collections.abc import Iterable

@@ -6,8 +6,6 @@ pytest-xdist tries as many files at once as there are processors, if it is there
 passes then, a line names the test; the gate's last lines list all such lines, and more than two are red.
 """
 
-from __future__ import annotations
-
 import os
 import re
 import shutil
@@ -86,7 +84,8 @@ def count(tally: Tally, files: list[str], env: Mapping[str, str], *options: str,
     is_good = counts and (status == 0 or status == 1 and failed == len(again))
     tally.note(" ".join(files), "" if is_good else text)
     passed = counts.get("passed", 0) + len(again)
-    tally.passed, tally.failed = tally.passed + passed, tally.failed + max(0, failed - len(again) - 1)
+    tally.passed = tally.passed + passed
+    tally.failed = tally.failed + max(0, failed - len(again) - 1)
 
 
 def main(tally: Tally, *files: str) -> None:

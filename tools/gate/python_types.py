@@ -3,8 +3,6 @@
     python3 tools/gate/python_types.py
 """
 
-from __future__ import annotations
-
 import re
 from pathlib import Path
 

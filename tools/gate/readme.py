@@ -8,8 +8,6 @@ digit changed in what the page shows, or one word where numbers don't count, the
 sample is skipped, and told, where the machine lacks what the page says that it needs.
 """
 
-from __future__ import annotations
-
 import os
 import re
 import shlex
@@ -29,14 +27,8 @@ PAGE = (TOP / "README.md").read_text()
 BLOCK = re.compile(r"^```(\w*)\n(.*?)^```$", re.M | re.S)
 CELLS = re.compile(r"^\| (.*) \| (.*) \|$", re.M)
 CODE = re.compile(r"`([^`]+)`")
-NEEDS = {
-    "ping": "ping",
-    "redis.net": "redis-server",
-    "--outside": "slirp4netns",
-    "--container": "docker",
-    "pip install": "pip",
-    "apt install": "apt-get",
-}
+NEEDS = {"ping": "ping", "redis.net": "redis-server", "--outside": "slirp4netns", "--container": "docker"}
+NEEDS |= {"pip install": "pip", "apt install": "apt-get"}
 FIRST = "git clone URL hingetulip && cd hingetulip"  # which the copy stands for
 ROWS = re.compile(r" *row |10\.0")  # of what the page's test prints
 FILES = {name: "1\n2\n" for name in ("up.trace", "down.trace")}

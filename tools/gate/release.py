@@ -8,8 +8,6 @@ its sources, where this clone keeps what was proved of the crates below it: with
 library's bytes aren't compared.
 """
 
-from __future__ import annotations
-
 import re
 import shutil
 import subprocess
@@ -17,7 +15,7 @@ from hashlib import sha256
 from pathlib import Path
 from tempfile import TemporaryDirectory
 
-from tally import TOP, Tally, judge, ran
+from tally import TOP, Tally, judge, said
 
 from hinge.simulated.kernel import current_kernels
 from link_library import SHARED, STATIC
@@ -27,10 +25,6 @@ LIBRARY = "hingetulip_c"
 COMPILER = re.compile(rb"GCC: \([^)]*\) [\d.]+")
 HOSTS = ["hinge-link", "hinge-packets", "hinge-clock.so"]
 SUM = re.compile("[0-9a-f]{64}")
-
-
-def said(*words: str | Path) -> str:
-    return ran(*words, is_apart=True, check=True).stdout
 
 
 def are_kept(crates: list[str]) -> bool:

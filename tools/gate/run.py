@@ -11,8 +11,6 @@ out, and what is lacking. The lines above it name what failed, and the table abo
 which is kept in built/minutes. DUMMYNET names the program for the parts that aren't told.
 """
 
-from __future__ import annotations
-
 import os
 import resource
 import shutil

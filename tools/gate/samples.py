@@ -8,8 +8,6 @@ two pages (`.., N, and of CRATE, N:`). The parts of a sample are joined, in orde
 regard to comments and spaces, and may have `use` lines before it: of names that the files use too. It reads the sources alone.
 """
 
-from __future__ import annotations
-
 import re
 import sys
 from pathlib import Path
@@ -31,15 +29,7 @@ LINK = re.compile(r"\]\((?!http)([^)\s#]*)#?([^)\s]*)\)")
 # Libraries have a sample each, and so has a crate of tests.
 WITH_SAMPLES = ("dn_", "test_shaper")
 # Samples that are on the page alone. That of dn_laws is the contract of a law.
-WITHOUT_TEST = {
-    ("dn_service", 1),
-    ("dn_service", 2),
-    ("dn_service", 3),
-    ("dn_service", 4),
-    ("dn_shaper", 1),
-    ("dn_files", 3),
-    ("dn_laws", 1),
-}
+WITHOUT_TEST = {("dn_shaper", 1), ("dn_files", 3), ("dn_laws", 1), *(("dn_service", number) for number in range(1, 5))}
 
 
 class Code(NamedTuple):

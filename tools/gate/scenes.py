@@ -1,7 +1,5 @@
 """The scenes of examples, in a folder: those that tools/release/examples.py writes, and the files that are kept."""
 
-from __future__ import annotations
-
 import shutil
 import subprocess
 import sys

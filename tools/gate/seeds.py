@@ -5,8 +5,6 @@
 prints the seed of the files that match, from the top of the repository. `fresh` in the place of a seed draws one.
 """
 
-from __future__ import annotations
-
 import secrets
 import subprocess
 import sys

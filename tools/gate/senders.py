@@ -7,8 +7,6 @@ caller are counted. The ten times longer run may need a quarter of its history a
 about all of it. The functions that docs/EMBEDDING.md shows first are the program's.
 """
 
-from __future__ import annotations
-
 import os
 import re
 import subprocess

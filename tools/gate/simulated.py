@@ -7,8 +7,6 @@ processor time, once for its recipe: it is kept in what `rt ci` keeps between ru
 where both are of the same source and compilers. The host in C is built anew from the present sources.
 """
 
-from __future__ import annotations
-
 import os
 import shutil
 import subprocess

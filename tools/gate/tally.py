@@ -1,8 +1,7 @@
 """A part's form: its count of passed and failed checks, printed as its last line, and the folders from which parts import."""
 
-from __future__ import annotations
-
 import os
+import shutil
 import subprocess
 import sys
 from collections.abc import Callable
@@ -48,6 +47,10 @@ class Tally:
     def equal(self, name: str, wanted: object, got: object) -> None:
         self.note(name, "" if wanted == got else f"want {wanted!r}, got {got!r}")
 
+    def ends(self, name: str, done: subprocess.CompletedProcess[Any], *wanted: object) -> None:
+        """Compares a command's status, and its output and errors if they are given too."""
+        self.equal(name, wanted, (done.returncode, done.stdout, done.stderr)[: len(wanted)])
+
     def end(self) -> int:
         """Prints the failures again in short, and the last line; returns the status. A part without checks fails."""
         if not self.passed and not self.failed:
@@ -61,6 +64,19 @@ def ran(*words: object, is_apart: bool = False, **how: Any) -> Ran:
     stdin = {} if "input" in how or "stdin" in how else {"stdin": subprocess.DEVNULL}
     streams = {"stdout": subprocess.PIPE, "stderr": subprocess.PIPE if is_apart else subprocess.STDOUT, **stdin}
     return subprocess.run(list(map(str, words)), **{**streams, "text": True, **how})
+
+
+def said(*words: object) -> str:
+    """Returns the output of a command that has to succeed, without its errors."""
+    return ran(*words, is_apart=True, check=True).stdout
+
+
+def lacks(name: str, *programs: str) -> bool:
+    """Returns whether this machine lacks one of the programs that a check needs, and says that the check is skipped then."""
+    missing = [program for program in programs if shutil.which(program) is None]
+    if missing:
+        print(f"{name}: skipped, since there is no {missing[0]} on the path", flush=True)
+    return bool(missing)
 
 
 def stated(tally: Tally, page: str, *words: str) -> None:

@@ -6,8 +6,6 @@ Both runs have to write the same histories, byte for byte, where time is simulat
 Python. An example whose package the machine lacks says so. The page's tests of simulated time are run too.
 """
 
-from __future__ import annotations
-
 import os
 import re
 import shutil
@@ -112,7 +110,8 @@ def of_page(tally: Tally, pytest: Pytest) -> None:
     least = re.search(r"^(.* packet \d+ lost\nfails by .*\n)", text, re.M)
     tally.note("the least faults of that test", "" if least and least[1] in told else told)
     if has(pytest.interpreter, "hypothesis"):
-        told, lines = pytest.run("faults", more, "-k", "in_order"), re.findall(r"# (Faults\(.*\))", faults)
+        told = pytest.run("faults", more, "-k", "in_order")
+        lines = re.findall(r"# (Faults\(.*\))", faults)
         tally.note("what hypothesis finds", "" if lines and f"faults={lines[0]}," in told else told)
     else:
         print("what hypothesis finds: skipped, since there is no python3-hypothesis")

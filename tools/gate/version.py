@@ -6,8 +6,6 @@ These are the program, the header of the C library, the crate for cargo, `hinge`
 looks at what ./install puts.
 """
 
-from __future__ import annotations
-
 import re
 import sys
 from pathlib import Path

@@ -12,8 +12,6 @@ has such a store, and has to fail. No contract says that the store is a fence: i
 tools/gate/fences.py counts such stores in the machine code.
 """
 
-from __future__ import annotations
-
 from collections import deque
 from collections.abc import Iterator
 from enum import Enum

@@ -7,8 +7,6 @@ runs, what is told, and what is left when a build fails is tried in seconds. The
 tried through the real ./dummynet.
 """
 
-from __future__ import annotations
-
 import os
 import re
 import resource
@@ -18,24 +16,11 @@ import sys
 from pathlib import Path
 from tempfile import TemporaryDirectory
 
-from tally import TOP, Tally, judge
+from tally import TOP, Tally, judge, lacks
 
-SCRIPTS = (
-    "dummynet",
-    "build",
-    "tools/release/program_sources",
-    "tools/release/build_program.py",
-    "tools/release/link_library.py",
-    "tools/release/library",
-    "tools/release/release",
-    "crates.txt",
-    "HANDLES",
-    "VERSION",
-    "crates/hingetulip_c/include/hingetulip.h",
-    "crates/hingetulip_c/include/hingetulip_service.h",
-    "LICENSE",
-    "NOTICE",
-)
+SCRIPTS = """dummynet build crates.txt HANDLES VERSION LICENSE tools/release/program_sources tools/release/build_program.py
+tools/release/link_library.py tools/release/library tools/release/release crates/hingetulip_c/include/hingetulip.h
+crates/hingetulip_c/include/hingetulip_service.h""".split()
 PRETENDED = """#!/bin/sh
 crate=$(basename "$PWD")
 case $1 in
@@ -59,7 +44,9 @@ class Copy:
     """A copy of the scripts, with the sources of the program and of one test crate."""
 
     def __init__(self, place: str) -> None:
-        self.top, self.tools, self.plain = Path(place) / "repo", Path(place) / "bin", Path(place) / "python"
+        self.top = Path(place) / "repo"
+        self.tools = Path(place) / "bin"
+        self.plain = Path(place) / "python"
         self.calls, self.temporary = Path(place) / "calls", Path(place) / "tmp"
         self.temporary.mkdir()
         for file in SCRIPTS:
@@ -88,7 +75,7 @@ class Copy:
         plain = [folder for folder in path if not (Path(folder) / "rt").exists()]
         env = {
             **os.environ,
-            "PATH": ":".join([str(self.tools)] * has_rt + [str(self.plain), *plain]),
+            "PATH": ":".join(([str(self.tools)] if has_rt else []) + [str(self.plain), *plain]),
             "CALLS": str(self.calls),
             "FAILS": fails,
             "TMPDIR": str(self.temporary),
@@ -121,9 +108,7 @@ def which_program(tally: Tally, copy: Copy) -> None:
     """Checks which program runs: the release's, then the one built here."""
     copy.release(copy.sources())
     done = copy.run("a", "b c", has_rt=False)
-    tally.equal(
-        "a release of these sources needs no toolchain", (0, "release a b c\n", ""), (done.returncode, done.stdout, done.stderr)
-    )
+    tally.ends("a release of these sources needs no toolchain", done, 0, "release a b c\n", "")
     done = copy.run(script="build")
     tally.equal("./build builds beside a release", 0, done.returncode)
     tally.equal(
@@ -133,9 +118,7 @@ def which_program(tally: Tally, copy: Copy) -> None:
     told = re.findall(rf"(?m)^dummynet: \d+ of {count} crates built \(\w+\), \d+\.\d minutes$", done.stderr)
     tally.equal("./build tells of each crate", count, len(told))
     done = copy.run("x", has_rt=False)
-    tally.equal(
-        "the program that was built goes before the release", (0, "built x\n", ""), (done.returncode, done.stdout, done.stderr)
-    )
+    tally.ends("the program that was built goes before the release", done, 0, "built x\n", "")
     for crate in ("dn_types/src/lib.rt", "dummynet/src/main.rt"):
         os.utime(copy.top / "crates" / crate)
     copy.change("crates/dn_link/src/lib.rt", "// A comment.")
@@ -169,13 +152,13 @@ def stale(tally: Tally, copy: Copy) -> None:
     done = copy.run("x", fails="dummynet")
     tally.equal("a failed build of the program itself", (70, before), (done.returncode, copy.built()))
     done = copy.run("x y")
-    tally.equal("a stale release and program are replaced", (0, "built x y\n"), (done.returncode, done.stdout))
+    tally.ends("a stale release and program are replaced", done, 0, "built x y\n")
     tally.note("one program is left", "" if len(copy.built()) == 1 and copy.built() != before else f"got {copy.built()}")
     tally.equal("nothing is left among the temporary files", [], list(copy.temporary.iterdir()))
     shutil.rmtree(copy.top / "release")
     shutil.rmtree(copy.top / "built")
     done = copy.run("x")
-    tally.equal("neither release nor program", (0, "built x\n"), (done.returncode, done.stdout))
+    tally.ends("neither release nor program", done, 0, "built x\n")
 
 
 def few_processes(tally: Tally, copy: Copy) -> None:
@@ -211,7 +194,7 @@ def released(tally: Tally, copy: Copy) -> None:
     tally.equal("tools/release/release", 0, done.returncode)
     tally.equal("its sources", copy.sources(), (copy.top / "release" / "sources").read_text())
     done = subprocess.run(["sha256sum", "-c", "--quiet", "SHA256SUMS"], cwd=copy.top / "release", capture_output=True, text=True)
-    tally.equal("its checksum", (0, ""), (done.returncode, done.stdout))
+    tally.ends("its checksum", done, 0, "")
     copy.change("crates/dummynet/src/main.rt")
     done = copy.run(script="tools/release/release")
     tally.note("no release of what isn't built", "" if done.returncode == 1 and "isn't built" in done.stderr else f"got {done}")
@@ -219,8 +202,7 @@ def released(tally: Tally, copy: Copy) -> None:
 
 def the_library(tally: Tally, copy: Copy) -> None:
     """./build --lib, where there is a C compiler."""
-    if shutil.which("cc") is None:
-        print("the C library: skipped, since there is no cc on the path")
+    if lacks("the C library", "cc"):
         return
     programs = copy.built()
     done = copy.run("--lib", script="build", fails="hingetulip_c")

@@ -16,8 +16,6 @@ holds the ports, so whoever knows the constant computes the state after it, and 
 each key then multiplies the same number.
 """
 
-from __future__ import annotations
-
 import argparse
 import sys
 from collections.abc import Callable, Iterator

@@ -7,8 +7,6 @@ drawn key nobody knows them, so these flows cost what others do; where the drawn
 count squared.
 """
 
-from __future__ import annotations
-
 import itertools
 import sys
 from fractions import Fraction

@@ -5,8 +5,6 @@
 Writes FILE, the standard input of `dummynet live`. The kinds are the functions of KINDS, each of which says what it makes.
 """
 
-from __future__ import annotations
-
 import argparse
 import sys
 from collections.abc import Callable, Iterator
@@ -98,12 +96,10 @@ def many_links(links: int) -> Iterator[str]:
 
 
 KINDS: dict[str, Callable[[int], Iterator[str]]] = {
-    "queue-delete": queue_delete,
-    "delete-turns": delete_turns,
-    "emptied-pipes": emptied_pipes,
-    "emptied-turns": emptied_turns,
-    "idle-deletes": idle_deletes,
-    "many-links": many_links,
+    **{
+        kind.__name__.replace("_", "-"): kind
+        for kind in (queue_delete, delete_turns, emptied_pipes, emptied_turns, idle_deletes, many_links)
+    },
     **{f"reset-{kind}": partial(reset_flows, kind) for kind in ("queue", "masks", "pipe", "sent")},
 }
 

@@ -4,8 +4,6 @@ The files of a crate, its joined crates and dn_laws become a single crate, so th
 sources it has the types alone, or all where types are seen through models.
 """
 
-from __future__ import annotations
-
 import re
 import sys
 from dataclasses import dataclass, field

@@ -11,8 +11,6 @@ has it once and its row holds. A row of laws holds if each law exists and uses a
 word that no law uses, and a row that doesn't hold, fails. So does a clause that docs/TRUST.md doesn't state in its table of laws.
 """
 
-from __future__ import annotations
-
 import re
 import sys
 from pathlib import Path
@@ -77,7 +75,8 @@ def read_table(text: str) -> List[Row]:
         function = ""
         for name in re.findall(r"`(\w+)`", cells[2]):
             if name.startswith(("laws_of_", "each_call_")):
-                function, clauses = name, clauses + ([(name, "")] if name.startswith("each_call_") else [])
+                function = name
+                clauses = clauses + ([(name, "")] if name.startswith("each_call_") else [])
             else:
                 clauses.append((function, name))
         rows.append(Row(re.findall(r"`(\w+)`", cells[1]), clauses))

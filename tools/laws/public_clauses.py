@@ -9,8 +9,6 @@ its crate's lib.rt doesn't export. The last lines count them. The status is 1 if
 new condition (`requires`), or has lost a clause and got none.
 """
 
-from __future__ import annotations
-
 import re
 import subprocess
 import sys
@@ -111,7 +109,8 @@ def contracts(files: dict[str, str]) -> dict[Function, set[str]]:
         impls = owners(text)
         for head in HEAD.finditer(text):
             owner = next((name for start, end, name in impls if start < head.start() < end), "")
-            crate, type_name = path.split("/")[1], re.sub(r"<.*?>", "", owner).strip()
+            crate = path.split("/")[1]
+            type_name = re.sub(r"<.*?>", "", owner).strip()
             one = Function(crate, owner, head[1], (crate, type_name or head[1]) in exported)
             found.setdefault(one, set()).update(clauses(text, signature_end(text, head.end())))
     return found

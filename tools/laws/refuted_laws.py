@@ -15,8 +15,6 @@ those names, that it uses.
 The libraries below a crate are built first, where they have changed. With --built they are taken as `rt ci` has just left them.
 """
 
-from __future__ import annotations
-
 import re
 import shutil
 import subprocess
@@ -183,7 +181,8 @@ def try_row(copy: Copy, row: Row, refutation: Refutation, laws: Laws) -> str:
 
 def try_rows(base: Base, rows: Sequence[Row], refutations: dict[str, Refutation]) -> dict[str, str]:
     """Returns the results of one crate's rows."""
-    laws, told = laws_of(base), {row[0]: "has no file" for row in rows if row[0] not in refutations}
+    laws = laws_of(base)
+    told = {row[0]: "has no file" for row in rows if row[0] not in refutations}
     known = [row for row in rows if row[0] not in told]
     with TemporaryDirectory() as folder:
         copy = copied(base, Path(folder), [refutations[row[0]] for row in known], laws)

@@ -4,8 +4,6 @@
 Prints the rows by number. Each row changes one line of a crate's specs, or a few. refuted_laws.py has the prover refute its law, at the example in tools/laws/refuted.
 """
 
-from __future__ import annotations
-
 import contextlib
 import sys
 from collections.abc import Iterator

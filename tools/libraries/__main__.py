@@ -7,8 +7,6 @@ The calls of a table then run alike (`calls.py`): each is exact, refused or told
 that the machine lacks. The last line is `N passed, M failed`.
 """
 
-from __future__ import annotations
-
 import argparse
 import os
 import re

@@ -3,8 +3,6 @@
 A row's call runs on a host with a server of UDP behind a link. After the loopback's address and PORT, a real TCP socket and a real
 UDP socket note arrivals: an arrival that the report omits is silently real."""
 
-from __future__ import annotations
-
 import select
 import socket
 import subprocess

@@ -1,7 +1,5 @@
 """Each test of a library runs by seeds 1 to `--seeds`."""
 
-from __future__ import annotations
-
 import pytest
 
 
@@ -16,6 +14,7 @@ def pytest_generate_tests(metafunc: pytest.Metafunc) -> None:
 @pytest.fixture
 def pair(sim_net):
     """Two hosts with a path between them."""
-    client, server = sim_net.host("10.0.0.1", "fd00::1"), sim_net.host("10.0.0.2", "fd00::2", name="server.test")
+    client = sim_net.host("10.0.0.1", "fd00::1")
+    server = sim_net.host("10.0.0.2", "fd00::2", name="server.test")
     sim_net.path(client, server)
     return client, server

@@ -16,7 +16,10 @@ class Echo(DatagramProtocol):
 
 class Asks(DatagramProtocol):
     def __init__(self, reactor):
-        self.reactor, self.asked, self.answers, self.refused = reactor, 0, 0, 0
+        self.reactor = reactor
+        self.asked = 0
+        self.answers = 0
+        self.refused = 0
 
     def startProtocol(self):
         self.transport.connect("10.0.0.2", 7)

@@ -20,7 +20,8 @@ async def register():
 
 
 async def find():
-    own, found = AsyncZeroconf(), asyncio.get_running_loop().create_future()
+    own = AsyncZeroconf()
+    found = asyncio.get_running_loop().create_future()
 
     def changed(zeroconf, service_type, name, state_change):
         if state_change is ServiceStateChange.Added and not found.done():

@@ -3,8 +3,6 @@
 All is a function of the random.Random that is handed in.
 """
 
-from __future__ import annotations
-
 from random import Random
 
 from scenarios import Style, first_commands

@@ -8,8 +8,6 @@ in order, and the report is that of the history. N is 1 to 16. The count of runs
 the file shows that callers overlapped.
 """
 
-from __future__ import annotations
-
 import subprocess
 import sys
 from pathlib import Path

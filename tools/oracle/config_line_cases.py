@@ -1,7 +1,5 @@
 """Random configuration lines, and some whose numbers, units or lengths are beyond all that a random line has."""
 
-from __future__ import annotations
-
 from random import Random
 
 from broken import bad_line, random_words_line

@@ -1,7 +1,5 @@
 """The reader of configuration lines according to docs/LINKS.md."""
 
-from __future__ import annotations
-
 import re
 from pathlib import Path
 from typing import Any, Optional

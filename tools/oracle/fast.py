@@ -1,7 +1,5 @@
 """The replies of dummynet, from the rules in words: running clock and counts, two heaps, an epoch per busy period."""
 
-from __future__ import annotations
-
 import heapq
 from collections import deque
 from collections.abc import Iterable

@@ -1,7 +1,5 @@
 """The formats of configurations, joined inputs, packet files, reports and faults according to docs/FILES.md."""
 
-from __future__ import annotations
-
 from collections import Counter
 from typing import Iterable, Optional, TypeVar
 
@@ -144,7 +142,8 @@ class Record:
 def call_of(fields: list[bytes]) -> tuple[int, model.Call]:
     """Returns the call of a record, with its caller."""
     record = Record(fields)
-    caller, name = record.number(2, 0, model.MAX_CALLERS - 1), record.field(3)
+    caller = record.number(2, 0, model.MAX_CALLERS - 1)
+    name = record.field(3)
     if CALL_WIDTHS.get(name) != len(fields):
         raise BadField(3)
     if name == b"configure":

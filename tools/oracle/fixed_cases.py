@@ -1,7 +1,5 @@
 """Inputs of the program that are the same in every run: small replays, and each kind of fault and edge of the formats."""
 
-from __future__ import annotations
-
 from files import PACKET_HEADER
 
 HEADER = PACKET_HEADER + "\n"

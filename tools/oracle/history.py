@@ -1,19 +1,12 @@
 """The text of a history: a record for each call, with its configuration line in canonical form, and the reply's records."""
 
-from __future__ import annotations
-
 from typing import Iterable
 
 import model
 from printing import command_text
 
-NUMBERED_REPLIES = {
-    model.Queued: "queued",
-    model.Lost: "lost",
-    model.Full: "full",
-    model.NoTarget: "no-target",
-    model.Advanced: "advanced",
-}
+NUMBERED = (model.Queued, "queued"), (model.Lost, "lost"), (model.Full, "full"), (model.NoTarget, "no-target")
+NUMBERED_REPLIES = dict([*NUMBERED, (model.Advanced, "advanced")])
 
 
 def address_text(value: int) -> str:

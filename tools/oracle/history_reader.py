@@ -1,7 +1,5 @@
 """The reader of histories (versions 1 to 3) and of live sessions' transcripts according to docs/FILES.md, and their audit."""
 
-from __future__ import annotations
-
 from dataclasses import fields
 from typing import Callable, TypeVar
 
@@ -82,7 +80,8 @@ class HistoryReader:
     def reply(self, record: list[bytes]) -> model.Reply:
         if len(record) < 2 or record[0] != b"r":
             raise self.bad()
-        name, numbers = text_of(record[1]), Record(record).numbers(3)
+        name = text_of(record[1])
+        numbers = Record(record).numbers(3)
         for bare in model.Bare:
             if name == bare.value and not numbers and not (self.version == 1 and bare in SINCE_VERSION_2):
                 return bare

@@ -1,7 +1,5 @@
 """The live session according to docs/FILES.md: its output and status for an input."""
 
-from __future__ import annotations
-
 from typing import Optional
 
 from csv_bytes import read_records

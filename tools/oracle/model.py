@@ -1,7 +1,5 @@
 """The plain values of the reference: commands, calls, replies and entries."""
 
-from __future__ import annotations
-
 from dataclasses import dataclass
 from enum import Enum
 from typing import NamedTuple, Optional, Union

@@ -1,7 +1,5 @@
 """The one configuration line that is printed for a command."""
 
-from __future__ import annotations
-
 from config_lines import LOSS_OF_ALL
 from model import ALL_BITS, NO_BITS, Command, Delete, FiveTuple, Pipe
 

@@ -5,8 +5,6 @@
     python3 tools/oracle/program.py audit HISTORY
 """
 
-from __future__ import annotations
-
 import sys
 from dataclasses import dataclass, field
 from pathlib import Path

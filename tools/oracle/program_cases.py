@@ -5,8 +5,6 @@ faulty configurations and faulty packet files, then a quarter as many that ask f
 one caller, and half as many audits of histories. `tools/gate/cases.py` runs a program over them.
 """
 
-from __future__ import annotations
-
 from collections.abc import Iterator
 from dataclasses import dataclass, field
 from io import BytesIO
@@ -26,13 +24,8 @@ from random_histories import random_history
 from scenarios import STYLES, Style, first_commands, random_rows
 from spelling import spell
 
-REFUSED_LINES = (
-    b"queue 1 config pipe 4444",
-    b"pipe 4444 delete",
-    b"queue delete 4444",
-    b"pipe delete 1",
-    b"pipe 1 delete",
-    b"queue 1 delete",
+REFUSED_LINES = b"queue 1 config pipe 4444|pipe 4444 delete|queue delete 4444|pipe delete 1|pipe 1 delete|queue 1 delete".split(
+    b"|"
 )
 LINES_NOT_TEXT = (
     b"pipe 1 config \xff",

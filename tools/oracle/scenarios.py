@@ -3,8 +3,6 @@
 All is a function of the random.Random that is handed in.
 """
 
-from __future__ import annotations
-
 from dataclasses import dataclass, replace
 from random import Random
 from typing import Optional

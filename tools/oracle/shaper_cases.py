@@ -1,7 +1,5 @@
 """Random lists of calls with the reference's replies, which are those of tools/oracle/fast.py."""
 
-from __future__ import annotations
-
 from random import Random
 
 from fast import run

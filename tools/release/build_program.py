@@ -10,8 +10,6 @@ built/SUM/dummynet, and the library in built/SUM/libhingetulip.a and libhingetul
 crate that failed.
 """
 
-from __future__ import annotations
-
 import fcntl
 import os
 import shutil

@@ -5,8 +5,6 @@
 The random words and the jitter come from a generator that is seeded by the example's name and SEED, so they are the same in each run.
 """
 
-from __future__ import annotations
-
 import sys
 from io import BytesIO
 from pathlib import Path

@@ -9,8 +9,6 @@ version than the library's is refused at its start. With --symbols it prints the
 deb-symbols(5).
 """
 
-from __future__ import annotations
-
 import subprocess
 import sys
 from fnmatch import fnmatch

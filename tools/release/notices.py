@@ -6,8 +6,6 @@ With --check nothing is written, and the last line says whether NOTICE has those
 `dummynet` and `hingetulip_c`, and those that these use, as the toolchain has them: `rt doc` tells where.
 """
 
-from __future__ import annotations
-
 import re
 import subprocess
 import sys
@@ -15,7 +13,7 @@ import textwrap
 from pathlib import Path
 
 TOP = Path(__file__).resolve().parents[2]
-NOTICE = TOP / "NOTICE"
+NOTICE = TOP / "release" / "NOTICE"
 SHIPPED = ("dummynet", "hingetulip_c")
 BEGIN = "The program and the C library have code of these crates, as Rattle's toolchain has them"
 LICENCES = ("LICENSE-MIT", "LICENSE", "LICENSE-APACHE")  # of several, the first that is there
@@ -81,7 +79,8 @@ def main() -> int:
     before, begin, _ = NOTICE.read_text(encoding="utf-8").partition(BEGIN)
     wanted = f"{before.rstrip()}\n\n{text()}"
     if sys.argv[1:] == ["--check"]:
-        same, count = NOTICE.read_text(encoding="utf-8") == wanted, len(shipped(toolchain()))
+        same = NOTICE.read_text(encoding="utf-8") == wanted
+        count = len(shipped(toolchain()))
         print(
             f"{count} passed, 0 failed"
             if same

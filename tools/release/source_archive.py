@@ -8,8 +8,6 @@ that changed VERSION, CHANGELOG or release/ while VERSION named it and CHANGELOG
 another commit the archive's name ends in the commit's.
 """
 
-from __future__ import annotations
-
 import re
 import subprocess
 import sys

@@ -1,65 +1,10 @@
-//! Files, report and history text. Rows are applied while they are read;
+//! Rows, report and history text. Rows are applied while they are read;
 //! texts are built whole and written only after the last row was good.
 use crate::config::{parse_line, print_command};
 use crate::shaper::{Answer, Shaper};
 use crate::types::*;
-use std::fmt;
-use std::io::Read;
 
-pub const CONFIG_MAX: u64 = 1_048_576;
-pub const PACKETS_MAX: u64 = 67_108_864;
 const LAST_MOMENT: u64 = 1 << 62;
-
-#[derive(Clone, Copy, PartialEq, Eq, Debug)]
-pub enum Source { Config, Packets, History, Report }
-
-impl Source {
-    fn name(self) -> &'static str {
-        match self {
-            Source::Config => "config",
-            Source::Packets => "packets",
-            Source::History => "history",
-            Source::Report => "report",
-        }
-    }
-}
-
-#[derive(Clone, Copy, PartialEq, Eq, Debug)]
-pub enum Fault {
-    Config(usize),
-    Row(usize),
-    TooLong(Source),
-    Read(Source),
-    Write(Source),
-}
-
-impl Fault {
-    pub fn status(&self) -> u8 {
-        match self {
-            Fault::Config(_) => 3,
-            Fault::Row(_) => 4,
-            Fault::TooLong(_) | Fault::Read(_) | Fault::Write(_) => 6,
-        }
-    }
-}
-
-impl fmt::Display for Fault {
-    fn fmt(&self, f: &mut fmt::Formatter) -> fmt::Result {
-        match *self {
-            Fault::Config(line) => write!(f, "config line {line}: not a line of the loads"),
-            Fault::Row(row) => write!(f, "packet row {row}: not a row of the loads"),
-            Fault::TooLong(s) => write!(f, "{} too long", s.name()),
-            Fault::Read(s) => write!(f, "cannot read {}", s.name()),
-            Fault::Write(s) => write!(f, "cannot write {}", s.name()),
-        }
-    }
-}
-
-pub fn read_all(reader: impl Read, limit: u64, size_hint: u64, source: Source) -> Result<Vec<u8>, Fault> {
-    let mut bytes = Vec::with_capacity(size_hint.min(limit) as usize + 1);
-    reader.take(limit + 1).read_to_end(&mut bytes).map_err(|_| Fault::Read(source))?;
-    if bytes.len() as u64 > limit { Err(Fault::TooLong(source)) } else { Ok(bytes) }
-}
 
 // ---- writing ----
 
@@ -129,7 +74,7 @@ impl History {
         text.extend_from_slice(b"dummynet-history,3\n");
         History { text, entries: 0 }
     }
-    pub fn call(&mut self, call: &Call) {
+    fn call(&mut self, call: &Call) {
         let o = &mut self.text;
         self.entries += 1;
         o.extend_from_slice(b"c,0,");
@@ -145,12 +90,8 @@ impl History {
                 put_tuple(o, &packet.tuple);
                 put_list(o, &[packet.len as u64, packet.word as u64, *moment]);
             }
-            Call::Advance(m) => {
-                o.extend_from_slice(b"advance");
-                put_list(o, &[*m]);
-            }
-            Call::Collect(m) => {
-                o.extend_from_slice(b"collect");
+            Call::Advance(m) | Call::Collect(m) => {
+                o.extend_from_slice(if matches!(call, Call::Collect(_)) { b"collect" } else { b"advance" });
                 put_list(o, &[*m]);
             }
         }
@@ -160,19 +101,6 @@ impl History {
         self.text.extend_from_slice(word);
         put_list(&mut self.text, list);
         self.text.push(b'\n');
-    }
-    pub fn reply(&mut self, reply: &Reply) {
-        match reply {
-            Reply::Configured => self.record(b"r,configured", &[]),
-            Reply::NoSuchPipe => self.record(b"r,no-such-pipe", &[]),
-            Reply::Exhausted => self.record(b"r,exhausted", &[]),
-            Reply::Queued { at, flow, packet } => self.record(b"r,queued", &[*at, *flow as u64, *packet]),
-            Reply::Lost { at, flow } => self.record(b"r,lost", &[*at, *flow as u64]),
-            Reply::Full { at, flow } => self.record(b"r,full", &[*at, *flow as u64]),
-            Reply::NoTarget { at } => self.record(b"r,no-target", &[*at]),
-            Reply::Advanced { at } => self.record(b"r,advanced", &[*at]),
-            Reply::Delivered { at, list } => self.delivered(*at, list),
-        }
     }
     fn delivered(&mut self, at: u64, list: &[Delivery]) {
         self.record(b"r,delivered", &[at, list.len() as u64]);
@@ -255,23 +183,14 @@ fn read_row(b: &[u8], at: &mut usize) -> Option<Row> {
     Some(Row { moment, target, packet: Packet { tuple: FiveTuple { src, dst, proto, sport, dport }, len: len as u16, word } })
 }
 
-/// Calls `each` with the rows in order.
-pub fn for_rows(text: &[u8], mut each: impl FnMut(Row)) -> Result<(), Fault> {
-    let rows = text.strip_prefix(HEADER).ok_or(Fault::Row(0))?;
-    let (mut at, mut row) = (0, 0);
+/// Calls `each` with the rows in order; None at a row that is none of the loads'.
+pub fn for_rows(text: &[u8], mut each: impl FnMut(Row)) -> Option<()> {
+    let rows = text.strip_prefix(HEADER)?;
+    let mut at = 0;
     while at < rows.len() {
-        row += 1;
-        each(read_row(rows, &mut at).ok_or(Fault::Row(row))?);
+        each(read_row(rows, &mut at)?);
     }
-    Ok(())
-}
-
-pub fn for_commands(config: &[u8], mut each: impl FnMut(usize, Command) -> Result<(), Fault>) -> Result<(), Fault> {
-    let text = std::str::from_utf8(config).map_err(|_| Fault::Config(0))?;
-    for (number, line) in (1..).zip(text.lines()) {
-        each(number, parse_line(line).ok_or(Fault::Config(number))?)?;
-    }
-    Ok(())
+    Some(())
 }
 
 // ---- the replay ----
@@ -280,30 +199,18 @@ enum Event { Held(u64), Lost, Full, None }
 struct Other { row: u32, flow: u32, at: u64, event: Event }
 
 /// The report and, if asked, the history text.
-pub fn replay<P: AsRef<[u8]>>(
-    config: &[u8],
-    packets: impl FnOnce() -> Result<P, Fault>,
-    history: bool,
-) -> Result<(Vec<u8>, Option<Vec<u8>>), Fault> {
+pub fn replay(config: &str, packets: &[u8], history: bool) -> Result<(Vec<u8>, Option<Vec<u8>>), String> {
     let mut shaper = Shaper::new();
-    let mut configured = Vec::new();
-    for_commands(config, |line, c| match shaper.configure(&c) {
-        Reply::NoSuchPipe => Err(Fault::Config(line)),
-        reply => {
-            if history {
-                configured.push((c, reply));
-            }
-            Ok(())
-        }
-    })?;
-    let packets = packets()?;
-    let packets = packets.as_ref();
     let expected = packets.len() / 36;
     let mut book = history.then(|| History::new(expected));
-    if let Some(h) = &mut book {
-        for (c, reply) in &configured {
-            h.call(&Call::Configure(*c));
-            h.reply(reply);
+    for line in config.lines() {
+        let command = parse_line(line).ok_or_else(|| format!("{line}: not a line of the loads"))?;
+        if shaper.configure(&command) != Reply::Configured {
+            return Err(format!("{line}: refused"));
+        }
+        if let Some(h) = &mut book {
+            h.call(&Call::Configure(command));
+            h.record(b"r,configured", &[]);
         }
     }
     let mut accepted: Vec<(u64, u32, u32)> = Vec::with_capacity(expected);
@@ -329,7 +236,7 @@ pub fn replay<P: AsRef<[u8]>>(
                 Answer::Exhausted => h.record(b"r,exhausted", &[]),
             }
         }
-    })?;
+    }).ok_or("a row that is none of the loads'")?;
     let delivered = shaper.collect(LAST_MOMENT).unwrap_or_default();
     if let Some(h) = &mut book {
         h.call(&Call::Collect(LAST_MOMENT));
@@ -349,24 +256,15 @@ pub fn replay<P: AsRef<[u8]>>(
     }
     for o in &others {
         let (row, flow) = (o.row as u64, o.flow as u64);
-        match o.event {
-            Event::Held(packet) => {
-                out.extend_from_slice(b"held");
-                put_list(&mut out, &[row, flow, packet, o.at]);
-                out.extend_from_slice(b",,\n");
-                continue;
-            }
-            Event::Lost | Event::Full => {
-                out.extend_from_slice(if matches!(o.event, Event::Lost) { b"lost" } else { b"full" });
-                put_list(&mut out, &[row, flow]);
-                out.extend_from_slice(b",,");
-            }
-            Event::None => {
-                out.extend_from_slice(b"none");
-                put_list(&mut out, &[row]);
-                out.extend_from_slice(b",,,");
-            }
-        }
+        let (word, fields, packet, gap): (&[u8; 4], usize, u64, &[u8]) = match o.event {
+            Event::Held(packet) => (b"held", 3, packet, b","),
+            Event::Lost => (b"lost", 2, 0, b",,"),
+            Event::Full => (b"full", 2, 0, b",,"),
+            Event::None => (b"none", 1, 0, b",,,"),
+        };
+        out.extend_from_slice(word);
+        put_list(&mut out, &[row, flow, packet][..fields]);
+        out.extend_from_slice(gap);
         put(&mut out, o.at);
         out.extend_from_slice(b",,\n");
     }

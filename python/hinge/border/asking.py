@@ -4,21 +4,41 @@ from __future__ import annotations
 
 import os
 import socket
+import stat
+import struct
 from contextlib import contextmanager
 from dataclasses import replace
 from itertools import count
 from typing import Iterator
 
 from hinge.border.messages import Lines, Order, Reply, Strange, line_of, read_message
-from hinge.border.peers import is_own, process_and_user, within
+from hinge.border.scratch import holding
 from hinge.run.names import running, socket_of
 from hinge.run.words import Wrong
 
+CREDENTIALS = struct.Struct("3i")
 PATIENCE = 20.0  # s: more than a run takes for an order, so that its refusal comes before
 LONGEST_REPLY = 1 << 26  # bytes: a status has some thousand of each link
 LONGEST_ANSWER = 8192  # bytes
 MOST_DOORS = 8  # descriptors with an answer
 NUMBERS = count(1)
+
+
+def process_and_user(line: socket.socket) -> tuple[int, int]:
+    """Returns the process that created the other end, and its user, as reported by the system."""
+    process, user, _ = CREDENTIALS.unpack(line.getsockopt(socket.SOL_SOCKET, socket.SO_PEERCRED, CREDENTIALS.size))
+    return process, user
+
+
+def is_own(line: socket.socket) -> bool:
+    return process_and_user(line)[1] == os.geteuid()
+
+
+@contextmanager
+def within(path: str) -> Iterator[str]:
+    """Yields a short name for a socket, even in a folder with a long name: the system allows 107 bytes."""
+    with holding(os.path.dirname(path) or ".") as folder:
+        yield f"/proc/self/fd/{folder}/{os.path.basename(path)}"
 
 
 @contextmanager
@@ -36,7 +56,9 @@ def connected(path: str, patience: float = PATIENCE) -> Iterator[socket.socket]:
         except FileNotFoundError:
             raise Wrong(f"{path}: no run has this name{running()}") from None
         except OSError as error:
-            raise Wrong(f"{path}: {error.strerror or error}") from None
+            is_left = isinstance(error, ConnectionRefusedError) and os.path.exists(path) and stat.S_ISSOCK(os.stat(path).st_mode)
+            why = "its run was killed and left this socket, which may be removed" if is_left else error.strerror or error
+            raise Wrong(f"{path}: {why}") from None
 
 
 def asked_at(path: str, order: Order, patience: float = PATIENCE) -> tuple[Reply, list[int]]:

@@ -157,7 +157,8 @@ def lines_in(
 ) -> Iterator[str]:
     """Yields the lines of a UTF-8 text without their line ends, one by one, so that discarded lines use no memory. Fault: as
     `read_text` says, a line is too long, or too many of them are neither blank nor a comment."""
-    budget, saying = Budget(lines or 0, "lines"), Budget(said or 0, "lines that say something")
+    budget = Budget(lines or 0, "lines")
+    saying = Budget(said or 0, "lines that say something")
     with untrusted(name), opened(name, MOST_TEXT) as file:
         try:
             for line in lines_of(io.TextIOWrapper(file, "utf-8-sig", errors), longest):
@@ -207,16 +208,12 @@ class Input(NamedTuple):
     path: str
     name: str
 
-    @classmethod
-    def as_it_is(cls, name: str) -> Input:
-        return cls(name, name)
-
 
 @contextmanager
 def read_again(name: str, most: Optional[int]) -> Iterator[Input]:
     """Yields a file for several readings. Standard input and pipes are first copied to a file without a name, up to `most` bytes."""
     if name != "-" and not stat.S_ISFIFO(os.stat(name).st_mode):
-        yield Input.as_it_is(name)
+        yield Input(name, name)
         return
     with unnamed() as (copy, path):
         with untrusted(name), opened(name, most) as source:
@@ -251,11 +248,8 @@ class Unpacked:
         data: bytes = self.file.read1(size)
         self.count += len(data)
         if self.count > self.FREE + self.TIMES * self.packed.count:
-            raise Fault(
-                f"{self.name}: it unpacks to more than {self.TIMES} times its length; if that is right, "
-                "`zcat FILE |` before hinge, and `-` as its name, read it",
-                ROWS,
-            )
+            right = "if that is right, `zcat FILE |` before hinge, and `-` as its name, read it"
+            raise Fault(f"{self.name}: it unpacks to more than {self.TIMES} times its length; {right}", ROWS)
         return data
 
 

@@ -86,7 +86,7 @@ def end_of(words: Sequence[str], status: int, statuses: Iterable[int], complaint
     """Returns a program's message. Fault: a signal ended the program, or its status differs from these."""
     text = complaints.decode("utf-8", "replace").strip()
     if status not in statuses:
-        raise Fault(f"{name_of(words)} {how_ended(status)}" + f": {' '.join(text.split())[:MOST_TOLD]}" * bool(text), FILES)
+        raise Fault(f"{name_of(words)} {how_ended(status)}" + (f": {' '.join(text.split())[:MOST_TOLD]}" if text else ""), FILES)
     return text
 
 
@@ -111,10 +111,9 @@ def lines_from(words: Sequence[str], file: IO[bytes], statuses: Iterable[int] = 
 
 
 def forked(work: Callable[[], Optional[int]]) -> int:
-    """Forks this process. The child calls `work` and exits with the status that `work` returns; if `work` raises an exception,
-    the child prints a report and exits with status FILES. Returns the child's process number to the parent. Fault: the
-    system can't start another process.
-    """
+    """Forks this process. The child calls `work` and exits with the status that `work` returns; if `work` raises an exception, the
+    child prints a report and exits with status FILES. Returns the child's process number to the parent. Fault: the system can't
+    start another process."""
     try:
         process = os.fork()
     except OSError as error:

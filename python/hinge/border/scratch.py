@@ -43,9 +43,7 @@ def holding(path: Union[str, Path]) -> Iterator[int]:
 
 @contextmanager
 def alone(folder: str, patience: float) -> Iterator[None]:
-    """Locks a folder while the caller takes a name there. BlockingIOError: another program keeps the lock for this many
-    seconds.
-    """
+    """Locks a folder while the caller takes a name there. BlockingIOError: another program keeps the lock for this many seconds."""
     until = time.monotonic() + patience
     with holding(folder) as place:
         while True:
@@ -102,7 +100,8 @@ class Folder:
 
         place = str(within or temporary_place())
         remove_left(place)
-        self.path, self.lock = Path(tempfile.mkdtemp(prefix=PREFIX, dir=place)), -1
+        self.path = Path(tempfile.mkdtemp(prefix=PREFIX, dir=place))
+        self.lock = -1
         try:
             self.lock = marked(self.path)
         except OSError:

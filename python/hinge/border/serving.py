@@ -16,9 +16,8 @@ from contextlib import suppress
 from dataclasses import dataclass, field, replace
 from typing import Callable, NamedTuple, Optional, Sequence
 
-from hinge.border.asking import reached
+from hinge.border.asking import is_own, reached, within
 from hinge.border.messages import Order, Reply, Strange, line_of, read_message
-from hinge.border.peers import is_own, within
 from hinge.border.scratch import PREFIX, alone, held, undisturbed
 from hinge.border.terminal import note_defect
 from hinge.run.system import exchange
@@ -132,7 +131,8 @@ class Server:
     def __post_init__(self) -> None:
         path = self.path
         self.listening = socket.socket(socket.AF_UNIX, socket.SOCK_STREAM | socket.SOCK_NONBLOCK)
-        self.spare, self.waiting = held("/"), threading.Semaphore(0)
+        self.spare = held("/")
+        self.waiting = threading.Semaphore(0)
         self.woken, self.waking = socket.socketpair()
         for one in (self.woken, self.waking):
             one.setblocking(False)

@@ -22,7 +22,7 @@ def lines(text: str) -> str:
 
 def several(count: int, name: str) -> str:
     """Returns a count with its noun, such as `1 fault` or `2 faults`."""
-    return f"{count:,} {name}{'s' * (count != 1)}"
+    return f"{count:,} {name}{'s' if count != 1 else ''}"
 
 
 def blocks() -> str:

@@ -1,4 +1,4 @@
-"""The IPv6 addresses behind a packet file's IPv4 stand-ins, in a file beside it: `packets.csv.addresses`."""
+"""The IPv6 addresses behind a packet file's IPv4 stand-ins, in a second file such as `packets.csv.addresses`."""
 
 from __future__ import annotations
 
@@ -38,7 +38,8 @@ def addresses_file(packets: str) -> Path:
 def write_addresses(packets: str, addresses: StandIns) -> None:
     """Writes the file beside a packet file. Without IPv6 addresses, an old file is removed. Fault: a file of that name has other
     content."""
-    path, head = addresses_file(packets), f"{','.join(NAMES)}\n"
+    path = addresses_file(packets)
+    head = f"{','.join(NAMES)}\n"
     is_ours = path.is_file() and read_front(path, len(head)) == head.encode()
     if not addresses.stand_ins:
         if is_ours:

@@ -60,7 +60,7 @@ class Packet(NamedTuple):
 
 
 class FrameCounts(NamedTuple):
-    """The counts of packets by result."""
+    """Packet counts, with a field for each result."""
 
     rows: int
     bytes: int
@@ -126,7 +126,9 @@ class Capture:
 
     def asked(self) -> FrameColumns:
         """Returns a frame of each flow."""
-        flows, halves, words = self.flows, array("H", self.flows), array("I", self.flows)
+        flows = self.flows
+        halves = array("H", self.flows)
+        words = array("I", self.flows)
         return FrameColumns(lambda: self.keys, words[0::4], words[1::4], flows[12::16], halves[4::8], halves[5::8], flows[13::16])
 
     def write(self, targets: "array[int]") -> tuple[FrameCounts, list[str], list[tuple[int, str, str]]]:

@@ -1,8 +1,7 @@
 """The random words of a packet file: splitmix64 of a seed, a direction and the packet's number there, so that each word can be
 computed independently.
 
-dummynet uses 31 bits. A direction is a pipe or a queue; its words don't depend on other directions' packets.
-"""
+dummynet uses 31 bits. A direction is a pipe or a queue; its words don't depend on other directions' packets."""
 
 from __future__ import annotations
 

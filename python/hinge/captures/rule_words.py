@@ -42,7 +42,8 @@ class PortSpan(NamedTuple):
 
     def both(self, other: PortSpan) -> Optional[PortSpan]:
         """Returns the ports that two spans share, or None."""
-        low, high = max(self.low, other.low), min(self.high, other.high)
+        low = max(self.low, other.low)
+        high = min(self.high, other.high)
         return PortSpan(low, high) if low <= high else None
 
 
@@ -54,8 +55,7 @@ class Short:
     """The short words of a rule as conditions on packets. Properties without a condition are free.
 
     `nets` contains the networks in `src`, `dst` and `host`, and `ports` the ports in `sport`, `dport` and `port`; the last of each
-    means either end.
-    """
+    means either end."""
 
     way: Optional[int] = None
     protocols: tuple[int, ...] = ()
@@ -91,7 +91,9 @@ class RuleReader:
     """Takes the words of a rule from left to right into `short`."""
 
     def __init__(self, words: list[str]) -> None:
-        self.rest, self.short, self.seen = list(words), Short(), dict[str, str]()
+        self.rest = list(words)
+        self.short = Short()
+        self.seen = dict[str, str]()
 
     def read(self) -> Short:
         while self.rest:
@@ -117,7 +119,8 @@ class RuleReader:
             self.short.protocols = PROTOCOLS.get(word) or (number_of(self.value(word), 255, "no protocol from 0 to 255"),)
         elif word == "dscp":
             self.once(word, word)
-            text, what = self.value(word), "no DSCP from 0 to 63, and no name of one, as ef or af41"
+            text = self.value(word)
+            what = "no DSCP from 0 to 63, and no name of one, as ef or af41"
             self.short.dscp = DSCP[text.lower()] if text.lower() in DSCP else number_of(text, 63, what)
         elif word in NETS:
             if self.rest[:1] == ["port"] and word != "host":  # as tcpdump has it
@@ -140,7 +143,8 @@ def of_filter(text: str) -> str:
     matches = [re.fullmatch(r"(ip|ipv6|tcp|udp)\.(addr|host|(?:src|dst|)(?:port)?) *(?:==|eq) *([\w.:/]+)", part) for part in parts]
     words = list[str]()
     for match in filter(None, matches):
-        words += [match[1]] * (match[1] in ("tcp", "udp") and match[1] not in words)
+        if match[1] in ("tcp", "udp") and match[1] not in words:
+            words.append(match[1])
         words += [{"addr": "host", "srcport": "sport", "dstport": "dport"}.get(match[2], match[2]), match[3]]
     return " ".join(words) if all(matches) else ""
 

@@ -82,8 +82,7 @@ def read_rule(text: str) -> MapRule:
 def directions(text: str) -> list[MapRule]:
     """Returns the two rules for `--from`: one direction goes to pipe 1, and the other direction to pipe 2.
 
-    `text` is an address or a network of the senders, or `first` for whoever sends first.
-    """
+    `text` is an address or a network of the senders, or `first` for whoever sends first."""
     test = first_of_two if text == "first" else is_within("src", address_net(text))
     return [MapRule("pipe,1", (test,)), MapRule("pipe,2")]
 

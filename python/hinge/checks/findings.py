@@ -1,4 +1,4 @@
-"""A check's findings, printed one by one."""
+"""A check's findings, printed at once."""
 
 from __future__ import annotations
 

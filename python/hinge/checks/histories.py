@@ -49,29 +49,17 @@ def bad_record(name: str, records: HistoryRecords, number: int) -> tuple[str, st
         elif place == number:
             line, text = last, other
     if not line:
-        where = f"{name}:{last}"
-        return (where, "the history was cut: behind this record it has no `end`; the session was killed, or still goes on")
-    line_of_text = f"record {number} {text[:SHOWN]!r}"
+        return f"{name}:{last}", "the history was cut: behind this record it has no `end`; the session was killed, or still goes on"
+    why = ": not a record here; the file was edited"
     if before.startswith("end,"):
-        return f"{name}:{line}", f"{line_of_text} stands behind the end; keep one session a file"
-    if text.startswith("end,"):
-        return (
-            f"{name}:{line}",
-            f"{line_of_text}: there are {sum(1 for _ in records.calls())} entries, or the last has no reply; records were taken away "
-            f"or added",
-        )
-    if line == last and not records.is_whole:
-        return (
-            f"{name}:{line}",
-            f"{line_of_text}: the history was cut within this record; the session was killed, or still goes on",
-        )
-    if text.startswith("#"):
-        return (
-            f"{name}:{line}",
-            f"{line_of_text}: a remark, which only the transcript of a live session has; leave it out, or begin the file "
-            f"with dummynet-live,1",
-        )
-    return f"{name}:{line}", f"{line_of_text}: not a record here; the file was edited"
+        why = " stands behind the end; keep one session a file"
+    elif text.startswith("end,"):
+        why = f": there are {sum(1 for _ in records.calls())} entries, or the last has no reply; records were taken away or added"
+    elif line == last and not records.is_whole:
+        why = ": the history was cut within this record; the session was killed, or still goes on"
+    elif text.startswith("#"):
+        why = ": a remark, which only the transcript of a live session has; leave it out, or begin the file with dummynet-live,1"
+    return f"{name}:{line}", f"record {number} {text[:SHOWN]!r}{why}"
 
 
 def other_reply(name: str, records: HistoryRecords, entry: int) -> tuple[str, str]:

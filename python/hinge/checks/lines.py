@@ -15,7 +15,7 @@ from hinge.border.programs import lines_from
 from hinge.border.scratch import unnamed
 from hinge.checks.findings import MOST_FAULTS, Findings
 from hingetulip_words.values import FIELD_BITS
-from hingetulip_words.advice import OPTIONS, words_of
+from hingetulip_words.advice import OPTIONS_OF, words_before_comment
 from hingetulip_words.explained import explained, replaced
 from hinge.command import CONFIGURATION, FILES, MISSING, Fault
 from hinge.configurations.configured import InForce
@@ -69,7 +69,7 @@ def judged_lines(lines: Iterable[Union[bytes, str]]) -> Iterator[Verdict]:
     for number, line in enumerate(map(judged_part, lines), 1):
         if record.startswith(f"#,bad,{number},"):
             yield Verdict(number, "bad", record.split(",", 4)[4], line)
-        elif words_of(line.decode("utf-8", "replace")):
+        elif words_before_comment(line.decode("utf-8", "replace")):
             answer = next(records, "")
             if record[:2] != "c," or answer[:2] != "r,":
                 raise Fault(f"dummynet live says nothing of line {number}", FILES)
@@ -115,15 +115,15 @@ def refuse_wrong(texts: Sequence[str], numbers: Sequence[int], file: str, option
         return
     if first:
         _, _, number, _, why = first.split(",", 4)
-        raise wrong(int(number) - 1, LineCheck.wrong(words_of(texts[int(number) - 1]), why))
+        raise wrong(int(number) - 1, LineCheck.wrong(words_before_comment(texts[int(number) - 1]), why))
     for at, text in enumerate(texts):
-        if name := twice(words_of(text)):
+        if name := twice(words_before_comment(text)):
             raise wrong(at, f"{name} stands twice; write one of them")
 
 
 def twice(words: list[str]) -> str:
     """Returns the first option with two values in a line, or an empty text."""
-    options = OPTIONS.get(words[0] if words else "", ())
+    options = OPTIONS_OF.get(words[0] if words else "", ())
     return next((word for word, count in Counter(words[3:]).items() if count > 1 and word in options), "")
 
 
@@ -149,7 +149,7 @@ class LineCheck:
 
     def one(self, verdict: Verdict) -> None:
         where = f"{self.name}:{verdict.line}"
-        words = words_of(verdict.source.decode("utf-8", "replace"))
+        words = words_before_comment(verdict.source.decode("utf-8", "replace"))
         own = words[words[:1] == ["ipfw"] :]
         if verdict.name == "bad":
             self.found.fault(where, self.wrong(words, verdict.text), CONFIGURATION)
@@ -167,30 +167,27 @@ class LineCheck:
         """Returns the error and the advice for a line, from the program's text `word W: X`."""
         line = " ".join(words)
         whole = corrected(line)
-        return explained(line, text) + f"; in full: {whole}" * (whole is not None and whole != line)
+        return explained(line, text) + (f"; in full: {whole}" if whole is not None and whole != line else "")
 
     def refused(self, verdict: Verdict) -> str:
-        """Why a command that is well written has no effect."""
+        """Returns why a well-written command has no effect."""
         words = verdict.text.split()
         if verdict.name == "pipe-has-queues":
             return f"a queue still names pipe {words[-1]}; delete the queue first, or move it"
         if verdict.name != "no-such-pipe":
             return f"no such queue: queue {words[-1]} isn't configured here; leave this line out"
         pipe = f"pipe {words[4] if words[1] != 'delete' and len(words) > 4 else words[-1]}"
-        because = (
-            f" (line {self.spoilt[pipe]}, which is of it, has a fault)"
-            if pipe in self.spoilt
-            else "; a pipe's line stands above those of its queues"
-        )
-        return f"no such pipe: {pipe} isn't configured here{because}"
+        if pipe in self.spoilt:
+            return f"no such pipe: {pipe} isn't configured here (line {self.spoilt[pipe]}, which is of it, has a fault)"
+        return f"no such pipe: {pipe} isn't configured here; a pipe's line stands above those of its queues"
 
     def warn_of_second(self, where: str, words: list[str]) -> None:
         """Warns of a line that repeats an earlier line's target, or an option."""
         key = " ".join(words[:2])
         if key in self.last and "config" in words[:3] and "config" in self.last[key][1][:3]:
             line, earlier = self.last[key]
-            losses = [word for word in earlier[3:] if word in OPTIONS[words[0]] and word not in words[3:]]
-            also = f": {', '.join(losses)} of line {line} no longer hold{'s' * (len(losses) == 1)}" if losses else ""
+            losses = [word for word in earlier[3:] if word in OPTIONS_OF[words[0]] and word not in words[3:]]
+            also = f": {', '.join(losses)} of line {line} no longer hold{'s' if len(losses) == 1 else ''}" if losses else ""
             self.found.warn(where, f"a second line for {key}, and each line is its whole configuration{also}")
         if option := twice(words):
             self.found.warn(where, f"{option} stands twice; the last one counts")
@@ -205,14 +202,11 @@ def unlikely(name: str, word: str) -> str | None:
     """Returns a warning for a legal but unlikely value."""
     if name == "bw" and re.fullmatch(r"[1-9]\d{0,3}", word):
         return f"bw {word} is {word} bit/s; write {word}Mbit/s or {word}Kbit/s if that is meant"
-    if name == "plr" and Fraction(word + "0" * word.endswith(".")) == 1:
+    if name == "plr" and Fraction(word + ("0" if word.endswith(".") else "")) == 1:
         return f"plr {word} loses every packet; 1 % is 0.01"
     if name == "delay" and (ms := int(re.sub(r"\D", "", word) or 0)) > LONG_DELAY_MS:
         return f"delay {word} is {ms / 1000:g} s; delays are in ms"
     if name in FIELD_BITS and is_number(word) and int(word) & (int(word) + 1):
         whole = hex((1 << FIELD_BITS[name]) - 1)
-        return (
-            f"mask {name} {word} keeps the bits {int(word):#x}, and is neither a prefix length nor a value; all "
-            f"bits are {whole}"
-        )
+        return f"mask {name} {word} keeps the bits {int(word):#x}, and is neither a prefix length nor a value; all bits are {whole}"
     return None

@@ -51,9 +51,9 @@ class Operation:
 
     def told(self) -> str:
         """Returns the operation as text."""
-        words = "".join(f" {name} {text[:SHOWN]}" + " .." * (len(text) > SHOWN) for name, text in self.words.items())
-        return f"client {self.client}: {self.op}{words}, " + (
-            f"from {self.begin} to {self.end}" if self.is_over else f"from {self.begin}, never returned"
+        words = "".join(f" {name} {text[:SHOWN]}" + (" .." if len(text) > SHOWN else "") for name, text in self.words.items())
+        return f"client {self.client}: {self.op}{words}, from {self.begin}" + (
+            f" to {self.end}" if self.is_over else ", never returned"
         )
 
 
@@ -247,12 +247,12 @@ def operation_of(line: int, text: bytes, model: type[Model]) -> Optional[tuple[s
     if row.get("ok", True) not in (True, False):
         raise ValueError(f"ok {row['ok']!r}: write false if it surely didn't take place; leave out `end` if nobody knows")
     begin, end = row["begin"], row.get("end")
-    for name, moment in (("begin", begin), *([("end", end)] if end is not None else [])):
+    is_over = end is not None
+    for name, moment in (("begin", begin), *([("end", end)] if is_over else [])):
         if not isinstance(moment, (int, float)) or isinstance(moment, bool) or not -LATEST < moment < LATEST:
             raise ValueError(f"{name} {moment!r}: write a number, of one clock for all clients")
-    if end is not None and end < begin:
+    if is_over and end < begin:
         raise ValueError(f"end {end} is before begin {begin}")
-    is_over = end is not None
     words = {name: text_of(row[name]) for name in model.words[row["op"]] if name in row and (is_over or name != "result")}
     for name in model.words[row["op"]]:
         if name not in words and (is_over or name != "result"):

@@ -103,11 +103,13 @@ def least(operations: list[Operation], kind: type[Model], last: Operation) -> li
     core, others = operations, list[Operation]()
     early, late = ([one for one in operations if (one.begin > last.end) == is_late] for is_late in (False, True))
     if is_impossible(early + [one.anywhen() for one in late], kind):
-        core, others = early, [one.anywhen() for one in late]
+        core = early
+        others = [one.anywhen() for one in late]
     size = len(core)
     while size:
         for place in range((len(core) - 1) // size * size, -1, -size):
-            without, loose = core[:place] + core[place + size :], [one.anywhen() for one in core[place : place + size]]
+            without = core[:place] + core[place + size :]
+            loose = [one.anywhen() for one in core[place : place + size]]
             if is_impossible(without + others + loose, kind):
                 core, others = without, others + loose
         size //= 2
@@ -149,10 +151,8 @@ def check_operations(name: str, data: bytes, model: str, findings: Findings) -> 
         for one in fewest:
             show(printable(f"{name}:{one.line}: {one.told()}"))
     sys.stdout.flush()
-    unknown, orders = (
-        sum(not one.is_over for one in operations),
-        f"{len(bad)} without an order" if bad else "not all judged" if findings.status else "each with an order",
-    )
+    unknown = sum(not one.is_over for one in operations)
+    orders = f"{len(bad)} without an order" if bad else "not all judged" if findings.status else "each with an order"
     counts = f"{several(len(operations), 'operation')} on {several(len(keys), 'key')}, {orders}"
     tell(f"{name}: {counts}; {unknown} never returned, {refusals} refused")
     return fewest

@@ -148,14 +148,18 @@ class RowCheck:
         lines = other.text.encode().splitlines()
         count = 1 + (other.line - self.line + len(lines)) * lines[0][:1].isalpha()
         rest = re.split(rb"\r\n?|\n", b"\n" + self.data, count)[count:]
-        self.data, self.line = b"\n".join([HEAD, *rest]), self.line + count - 2
+        self.data = b"\n".join([HEAD, *rest])
+        self.line = self.line + count - 2
 
     def rows(self, begin: int = 1) -> Iterator[Row]:
         return islice(rows_of(io.BytesIO(self.data), self.line, "utf-8"), begin, None)
 
     def judge(self) -> bool:
         """Returns whether the program accepts all rows; reports the others."""
-        text, rows, ahead, reports = self.data, self.rows(), list[Row](), 0
+        text = self.data
+        rows = self.rows()
+        ahead = list[Row]()
+        reports = 0
         while reports < MOST_FAULTS:
             status, fault = verdict(text)
             if place := re.fullmatch(r"packet row (\d+), field (\d+): bad", fault):
@@ -188,10 +192,8 @@ class RowCheck:
             return
         self.warn_of_moments(sums)
         if sums.longest > LONGEST_FRAME:
-            self.found.warn(
-                self.name,
-                f"packets of up to {sums.longest} bytes: segments that a card was still to cut? (`hinge " f"packets --mtu 1500`)",
-            )
+            what = "segments that a card was still to cut? (`hinge packets --mtu 1500`)"
+            self.found.warn(self.name, f"packets of up to {sums.longest} bytes: {what}")
         if self.in_force is not None:
             self.warn_of_targets(sums, self.in_force)
             self.warn_of_words(sums, self.in_force)
@@ -199,37 +201,25 @@ class RowCheck:
     def warn_of_moments(self, sums: Sums) -> None:
         late, count, span = sums.late, sums.rows, sums.clock - sums.first_moment
         if late:
-            self.found.warn(
-                f"{self.name}:{self.line - 1 + sums.late_line}",
-                f"{late} of {count} rows have a moment before that of a row above, and count as sent "
-                "at that one's; sort the rows by moment",
-            )
+            what = "have a moment before that of a row above, and count as sent at that one's; sort the rows by moment"
+            self.found.warn(f"{self.name}:{self.line - 1 + sums.late_line}", f"{late} of {count} rows {what}")
         if count >= 100 and span < 100 * count:
             self.found.warn(self.name, f"{count} packets within {span} ns; moments are nanoseconds (1 s is 1000000000)")
         if sums.first_moment > FAR:
-            self.found.warn(
-                self.name,
-                f"the first packet is sent at {sums.first_moment} ns, {sums.first_moment // NS_PER_DAY} "
-                f"days after the start; "
-                "count from the first packet",
-            )
+            days = f"{sums.first_moment // NS_PER_DAY} days after the start; count from the first packet"
+            self.found.warn(self.name, f"the first packet is sent at {sums.first_moment} ns, {days}")
 
     def warn_of_targets(self, sums: Sums, force: InForce) -> None:
         numbers = {"pipe": set(force.pipes), "queue": set(force.queues)}
         unknown = [one for one in sums.targets if one.number not in numbers[one.kind]]
         none = "; NO row has a target" if len(unknown) == len(sums.targets) else ""
         for one in unknown[:MOST_FAULTS]:
-            self.found.warn(
-                f"{self.name}:{self.line - 1 + one.line}",
-                f"{one.rows} of {sums.rows} rows go to {one.kind} {one.number}, which {self.config} doesn't configure{none}",
-            )
+            what = f"go to {one.kind} {one.number}, which {self.config} doesn't configure{none}"
+            self.found.warn(f"{self.name}:{self.line - 1 + one.line}", f"{one.rows} of {sums.rows} rows {what}")
 
     def warn_of_words(self, sums: Sums, force: InForce) -> None:
         settings: list[Setting] = [*force.pipes.values(), *force.queues.values()]
         rates = [setting.loss for setting in settings if setting.loss]
         if rates and sums.rows > 1 and not sums.differ:
-            word = sums.word
-            fate = "lost" if word % LOSS_PARTS < max(rates) else "not lost"
-            self.found.warn(
-                self.name, f"each word is {word}, so under a loss rate all packets have one fate ({fate}); draw each " f"word anew"
-            )
+            fate = f"one fate ({'lost' if sums.word % LOSS_PARTS < max(rates) else 'not lost'}); draw each word anew"
+            self.found.warn(self.name, f"each word is {sums.word}, so under a loss rate all packets have {fate}")

@@ -7,10 +7,10 @@ import sys
 from hinge.border.asking import ask
 from hinge.border.terminal import show
 from hinge.command import CONFIGURATION, parser
-from hinge.events.forms import SIMULATED, WORDS
+from hinge.events.forms import WORDS
 from hingetulip_words.explained import explained
 
-WORDS_OF_NETS = ", ".join(word.form for name, word in WORDS.items() if name not in SIMULATED)
+WORDS_OF_NETS = ", ".join(word.form for word in WORDS.values() if not word.is_simulated)
 WHAT = f"""\
 Changes a link of hinge run, hinge udp or hinge net, at once. SOCKET is what --control names there, or a name of hinge up. WORDS are those of a
 timeline without the moment: a configuration line, [up|down] LINK or [up|down] outage LENGTH lossy. In a net they begin with two hosts, or
@@ -29,7 +29,7 @@ def main() -> None:
     arguments = line.parse_args()
     replies = ask(arguments.socket, change=" ".join(arguments.words)).told or []
     for one in replies:
-        show(f"{one.moment / 1e9:.6f} s: {one.line}" + f": {explained(one.line, one.refused)}" * bool(one.refused))
+        show(f"{one.moment / 1e9:.6f} s: {one.line}" + (f": {explained(one.line, one.refused)}" if one.refused else ""))
     if any(one.refused for one in replies):
         sys.stdout.flush()
         sys.exit(CONFIGURATION)

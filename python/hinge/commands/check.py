@@ -121,10 +121,11 @@ class Check:
 
 def of_text(typed: str) -> str:
     """Returns the command that checks a line of a configuration or net, or a link's words, in place of a file; else an empty text."""
-    kind, link = kind_of_text(typed.encode(errors="replace")), corrected(typed, Place.DUMMYNET)
+    kind = kind_of_text(typed.encode(errors="replace"))
+    link = corrected(typed, Place.DUMMYNET)
     text = shlex.quote(f"pipe 1 config {in_full(read_link(link))}" if link else typed)
     command = "net --dry-run" if kind == "net" else "check" if link or kind == "config" else ""
-    return f"printf '%s\\n' {text} | hinge {command} /dev/stdin" * bool(command)
+    return f"printf '%s\\n' {text} | hinge {command} /dev/stdin" if command else ""
 
 
 def main() -> None:

@@ -14,8 +14,8 @@ from hinge.border.terminal import show
 from hinge.command import Fault, module, parser
 from hinge.program import HINGE, dummynet
 from hinge.run.processes import SIGNALLED
-from hinge.simulated.build import lacking, source
-from hinge.simulated.kernel import found as kernel
+from hinge.simulated.build import missing_packages, source
+from hinge.simulated.kernel import usable_kernel as kernel
 
 WHAT = """\
 Tries what the commands of hinge need here: links in real time, the way to the rest of the network, simulated time, tables
@@ -60,7 +60,7 @@ def first_words() -> Finding:
     """Programs that the first samples of the pages call."""
     packages = {"ping": "iputils-ping", "git": "git", "redis-server": "redis-server"}
     lacking = {name: package for name, package in packages.items() if shutil.which(name) is None}
-    names = [*lacking, *["/etc/hosts (touch it)"] * (not os.path.exists("/etc/hosts"))]
+    names = [*lacking, *(["/etc/hosts (touch it)"] if not os.path.exists("/etc/hosts") else [])]
     return Finding(f"there is no {' and no '.join(names)}", tuple(lacking.values())) if names else Finding()
 
 
@@ -83,7 +83,7 @@ def simulated() -> Finding:
     try:
         kernel()
     except Fault as missing:
-        return Finding(str(missing), tuple(lacking(source()).values()))
+        return Finding(str(missing), tuple(missing_packages(source()).values()))
     return of_run("--simulated")
 
 
@@ -149,8 +149,9 @@ def install(packages: list[str]) -> Optional[str]:
     names = [*dict.fromkeys(packages)]
     own = [name for name in names if name.startswith("python3-") and sys.prefix != sys.base_prefix]
     rest = [name for name in names if name not in own]
-    lines = [f"sudo apt-get install {' '.join(rest)}"] * bool(rest)
-    lines += [f"{sys.executable} -m pip install {' '.join(name.partition('-')[2] for name in own)}"] * bool(own)
+    lines = [f"sudo apt-get install {' '.join(rest)}"] if rest else []
+    if own:
+        lines.append(f"{sys.executable} -m pip install {' '.join(name.partition('-')[2] for name in own)}")
     return "\n  ".join(lines) or None
 
 

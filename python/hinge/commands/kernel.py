@@ -14,7 +14,7 @@ from hinge.command import parser, say
 from hinge.command_line import add
 from hinge.program import clock
 from hinge.simulated import build, trial
-from hinge.simulated.kernel import cache, current_kernels, found
+from hinge.simulated.kernel import cache, current_kernels, usable_kernel
 
 WHAT = """\
 Builds a kernel in which `hinge run --simulated` runs programs, in place of the
@@ -51,7 +51,8 @@ def made(source: Optional[Path], compilers: int) -> Path:
     """Builds and tests the kernel; returns its folder."""
     start = time.monotonic()
     steps = build.Build(source or build.source(), compilers).run()
-    sleep, began = trial.try_hour(next(steps)), time.monotonic()
+    sleep = trial.try_hour(next(steps))
+    began = time.monotonic()
     kernel = next(steps)
     say(f"built in {began - start:.0f} s; it slept for {sleep:.3f} s of simulated time")
     return kernel.folder
@@ -63,7 +64,7 @@ def main() -> None:
     if arguments.clock:
         show(clock())
     elif arguments.path:
-        show(str(found().folder))
+        show(str(usable_kernel().folder))
     elif there:
         if not there[0].is_whole:
             build.add_init(there[0])

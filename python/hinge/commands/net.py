@@ -67,23 +67,15 @@ def options() -> Parser:
     line.add_argument("--transcripts", metavar="FOLDER", help="a folder for the history, net.history, and the summary, net.json")
     line.add_argument("--json", metavar="FILE", help="the summary for a program")
     line.add_argument("--logs", metavar="FOLDER", help="what each host prints, in NAME.log")
-    add(
-        line,
-        "--late TIME",
-        "status 75 where more than 1 of 100 packets of a way was late or unread by more, or the system dropped any",
-    )
+    late = "status 75 where more than 1 of 100 packets of a way was late or unread by more, or the system dropped any"
+    line.add_argument("--late", metavar="TIME", help=late)
     line.add_argument("--seed", metavar="N", type=seed, help="of what is drawn, for each way by itself (drawn, and told)")
     line.add_argument("--mtu", metavar="BYTES", type=mtu, default=1500, help="of all interfaces (1500)")
     line.add_argument("--end-wait", metavar="TIME", default="2s", help="how long commands have to end after SIGTERM (2s)")
     add_staying(line)
     line.add_argument("--quiet", action="store_true", help="no summary of the links")
-    add(
-        line,
-        "--realtime",
-        "the links before all other programs, where the system allows",
-        action=argparse.BooleanOptionalAction,
-        default=True,
-    )
+    realtime = "the links before all other programs, where the system allows"
+    add(line, "--realtime", realtime, action=argparse.BooleanOptionalAction, default=True)
     line.add_argument("--dry-run", action="store_true", help="prints hosts, addresses and links, and starts nothing")
     line.yields("--outside", "--outside-loopback")
     line.yields("--stay", "--while-open")
@@ -99,12 +91,8 @@ def add_staying(parser: argparse.ArgumentParser) -> None:
     add(parser, "--outside-loopback HOST", "the same, with this system's own loopback at 10.9.0.2 and fd00::2")
     parser.add_argument("--shell", metavar="HOST", help="a shell on a host is the main command")
     parser.add_argument("--stay", action="store_true", help="until ^C or SIGTERM, also after all commands")
-    add(
-        parser,
-        "--while-open N",
-        "the same, and until the other end of descriptor N, a pipe, is closed without a byte",
-        type=descriptor,
-    )
+    until = "the same, and until the other end of descriptor N, a pipe, is closed without a byte"
+    add(parser, "--while-open N", until, type=descriptor)
 
 
 def descriptor(text: str) -> int:

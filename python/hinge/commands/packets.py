@@ -20,7 +20,7 @@ from hinge.command import USAGE, Fault, parser, say
 from hinge.command_line import add
 from hinge.loss import Maker, read_model
 from hinge.outputs import refuse_inputs, writing
-from hingetulip_words.values import fault_of, number_of
+from hingetulip_words.values import value_fault, value_number
 
 LONGEST = 1500  # bytes of a packet on most links
 MOST_ADDRESSES = 20  # that are told
@@ -53,12 +53,12 @@ def two_directions(text: str) -> list[MapRule]:
 
 def bit_rate(text: str) -> int:
     """Returns the bit/s of a link's bandwidth. ArgumentTypeError: the text is no bandwidth, or 0, at which no packet leaves."""
-    wrong = fault_of("bw", text)
+    wrong = value_fault("bw", text)
     if wrong:
         raise argparse.ArgumentTypeError(f"{text!r} isn't a rate ({wrong.wrong}): {wrong.right}")
-    if not number_of("bw", text):
+    if not value_number("bw", text):
         raise argparse.ArgumentTypeError(f"{text!r} isn't a rate, as nothing leaves at 0 bit/s (example: 1Gbit/s)")
-    return int(number_of("bw", text))
+    return int(value_number("bw", text))
 
 
 def loss_model(text: str) -> tuple[str, Maker]:

@@ -40,25 +40,16 @@ def options() -> Parser:
     more = line.add_argument_group("the run")
     more.add_argument("--mtu", metavar="BYTES", type=mtu, default=1500, help="of both interfaces (1500)")
     add(more, "--net NETWORK", "of both hosts, for a run inside another one or beside a network of your own (10.8.0.0/24)")
-    add(
-        more,
-        "--netns PID",
-        "puts the link on the way out of a container or network that is there, in IPv4, as root; without COMMAND until ^C",
-    )
+    there = "puts the link on the way out of a container or network that is there, in IPv4, as root; without COMMAND until ^C"
+    more.add_argument("--netns", metavar="PID", help=there)
     more.add_argument("--container", metavar="NAME", help="the same for a container of docker or podman, by its name, id or image")
     more.add_argument("--server", metavar="COMMAND", help="what runs at the other end, by sh; COMMAND waits until it listens")
     more.add_argument("--server-wait", metavar="TIME", default="5s", help="how long (5s)")
     more.add_argument("--server-end", metavar="TIME", default="2s", help="how long the server has to end after SIGTERM (2s)")
     more.add_argument("--outside", action="store_true", help="the rest of the network behind the link, by slirp4netns or pasta")
     add(more, "--outside-loopback", "the same, with this system's own loopback at 10.9.0.2 and fd00::2", action="store_true")
-    add(
-        more,
-        "--to PORT",
-        "this system's port behind the link: the command finds it at localhost, and at server",
-        type=bounded(1, 65535),
-        action="append",
-        default=[],
-    )
+    port = "this system's port behind the link: the command finds it at localhost, and at server"
+    add(more, "--to PORT", port, type=bounded(1, 65535), action="append", default=[])
     add_run(more)
     line.needs("--server-wait --server-end", "--server")
     line.yields("--outside", "--outside-loopback")
@@ -91,7 +82,7 @@ def command_line(words: Optional[Sequence[str]] = None) -> RunOptions:
     if missing is not None:
         raise Fault(missing, CANNOT_EXECUTE if os.path.isfile(arguments.command[0]) else NOT_FOUND)
     if arguments.container is not None:
-        from hinge.run.containers import process_of
+        from hinge.run.joined import process_of
 
         arguments.netns = process_of(arguments.container)
     return RunOptions(**vars(arguments), more_files=())

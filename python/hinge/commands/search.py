@@ -75,12 +75,12 @@ def main() -> None:
     from hinge.border.scratch import scratch  # as the next, behind the command line, since a help has to come at once
     from hinge.searches.runs import SearchSettings
     from hinge.searches.search import search
-    from hinge.simulated.kernel import found
+    from hinge.simulated.kernel import usable_kernel
 
     if len(line.seeds) == 1 and line.seeds[0] > 1:
         say(f"--seeds {line.seeds[0]} tries only this seed; write --seeds 1-{line.seeds[0]} for {line.seeds[0]:,} seeds")
     file = failure_file(line)
     with scratch() as place:
-        found()  # a kernel, before anything starts
+        usable_kernel()  # a kernel, before anything starts
         settings = SearchSettings(line.what, line.pauses, line.real_limit, line.limit, line.command)
         sys.exit(search(settings, line.seeds, line.P, file, line.runs or place))

@@ -36,7 +36,10 @@ class Sender:
     loss, once for all packets under way."""
 
     def __init__(self) -> None:
-        self.window, self.threshold, self.sent, self.halved_till = 10.0, float("inf"), 0, 0
+        self.window = 10.0
+        self.threshold = float("inf")
+        self.sent = 0
+        self.halved_till = 0
         self.waiting = deque(range(SEGMENTS))
         self.under_way: dict[int, int] = {}  # segments, and their places in the order of sending
         self.newest = -1
@@ -72,7 +75,9 @@ class Download:
     def __init__(self, path: Path, links: tuple[str, str]) -> None:
         from hingetulip.recorded import RecordedShaper  # the library, without which there is still a help
 
-        self.sender, self.came, self.moment = Sender(), list[int](), 0
+        self.sender = Sender()
+        self.came = list[int]()
+        self.moment = 0
         self.carried: dict[int, tuple[int, int]] = {}  # the pipe and the content, by the number of the packet
         self.shaper = RecordedShaper(path, seed=1)
         for number, words in zip((UP, DOWN), links):
@@ -119,7 +124,10 @@ def drawn(name: str, values: list[float]) -> Iterator[str]:
 def picture(replay: Replay, span: int) -> Iterator[str]:
     """Yields the picture: received bytes, the queue, and drops."""
     step = span // STEPS + 1
-    rates, queues, drops, waiting = [0.0] * STEPS, [0.0] * STEPS, [" "] * STEPS, 0
+    rates = [0.0] * STEPS
+    queues = [0.0] * STEPS
+    drops = [" "] * STEPS
+    waiting = 0
     columns = (replay.event, replay.packets.length, replay.at, replay.start, replay.due)
     rows = [row for row in zip(*(column.tolist() for column in columns)) if row[1] == SEGMENT]
     for event, length, at, _, due in rows:

@@ -13,19 +13,18 @@ from typing import NamedTuple
 
 from hinge.arguments import is_number
 from hinge.border.terminal import show
+from hinge.checks.lines import refuse_wrong
 from hinge.command import FILES, parser
 from hinge.command_line import add, Parser
-from hinge.checks.lines import refuse_wrong
+from hinge.replays.units import socket_address
 from hinge.run.host import Link, program
 from hinge.run.options import add_link, add_run
 from hinge.run.order import Order, note_realtime, order_of, report
 from hinge.run.page import Page
 from hinge.run.processes import Processes, Ticker
 from hinge.run.settings import LiveOptions
-from hinge.run.summary import record
+from hinge.run.summary import Watch, record
 from hinge.run.system import Missing
-from hinge.run.watch import Watch
-from hinge.replays.units import socket_address
 from hinge.run.words import Wrong, read_lines
 from hingetulip_words.link import Place, corrected
 
@@ -132,10 +131,13 @@ def what_is_carried(order: Order, front: socket.socket, server: tuple[str, int])
 
 def main() -> None:
     arguments = vars(options().parse_args())
-    listen, server, links = arguments.pop("listen"), arguments.pop("server"), arguments.pop("links")
+    listen = arguments.pop("listen")
+    server = arguments.pop("server")
+    links = arguments.pop("links")
     mask = signal.pthread_sigmask(signal.SIG_BLOCK, ())
     program()
-    lines, files = [*arguments.pop("line"), *links_in_order(links)], [word for word in links if " " not in word]
+    lines = [*arguments.pop("line"), *links_in_order(links)]
+    files = [word for word in links if " " not in word]
     order = order_of(LiveOptions(**arguments, line=lines, more_files=files), LONGEST, mask)
     if any(extra.corrupt for extra, _ in order.made.extras.values()):
         raise Wrong("corrupt: each datagram is sent with a checksum of its own, which no flipped bit breaks; write loss 1%")

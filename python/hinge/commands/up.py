@@ -62,7 +62,8 @@ def wait_until_ready(process: "Process[bytes]", socket: str, log: Path) -> list[
 
 def main() -> None:
     arguments = command_line()
-    socket, folder = new_socket(arguments.name), Path(arguments.transcripts)
+    socket = new_socket(arguments.name)
+    folder = Path(arguments.transcripts)
     if os.path.exists(socket) and is_answered(socket):
         raise Wrong(f"{arguments.name} runs already: hinge down {arguments.name} ends it, and --name gives another name")
     is_new, log = not folder.exists(), folder / "net.log"

@@ -31,7 +31,7 @@ def main() -> None:
     numbers = list(takewhile(str.isdecimal, arguments.source))
     files, config = arguments.source[len(numbers) :], arguments.config
     if not numbers:
-        right = "; write hinge why ROW SOURCE, with a number from 1 on for ROW" * (not any(map(os.path.exists, files)))
+        right = "; write hinge why ROW SOURCE, with a number from 1 on for ROW" if not any(map(os.path.exists, files)) else ""
         line.error(f"{files[0]!r} isn't the number of a row{right}")
     if not files:
         line.error(f"behind the rows comes {SOURCE}; write hinge why {numbers[0]} HISTORY")

@@ -56,7 +56,8 @@ def setting_of(text: str) -> tuple[str, int, Optional[Setting]]:
     words = text.split()
     if words[1] == "delete":
         return words[0], int(words[2]), None
-    number, value = int(words[1]), dict(zip(words[3:], words[4:]))
+    number = int(words[1])
+    value = dict(zip(words[3:], words[4:]))
     size = value.get("queue", "50")
     limit = Limit(None, int(size[:-6])) if size.endswith("Kbytes") else Limit(int(size), None)
     loss = int(Fraction(value.get("plr", "0")) * LOSS_PARTS)  # the whole part, as the program keeps it

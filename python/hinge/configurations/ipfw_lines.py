@@ -9,6 +9,7 @@ from typing import Iterable, Iterator, NamedTuple, Optional
 
 from hinge.border.files import Budget, Exceeded
 from hinge.checks.lines import judged_lines, refuse_long
+from hingetulip_words.values import FACTOR
 
 ASSIGNMENT = re.compile(r"""(?:export\s+)?([A-Za-z_]\w*)=("[^"]*"|'[^']*'|[^\s;'"]*)""")
 VARIABLE = re.compile(r"\$\{([A-Za-z_]\w*)(?::?-([^}]{0,99}))?\}|\$([A-Za-z_]\w*)")
@@ -16,7 +17,7 @@ BETWEEN_COMMANDS = re.compile(r"\s*(?:;|&&|\|\|?|(?<!>)&(?!>))\s*")
 REDIRECTION = re.compile(r"\s*\d?>.*")
 HEAD = re.compile(r"(?:^|\s)((?:pipe|queue)\s+(?:\d+\s+(?:config|delete)\b|delete\s+\d).*|(?:pipe|queue)\s+flush\b.*)")
 UNSURE = re.compile(r"(?:^|\s)(?:pipe|queue|sched)\s+\S+\s+config\b")
-BANDWIDTH = re.compile(r"(\d+)([kKmMgG]?)([A-Za-z/]*)\Z")
+BANDWIDTH = re.compile(rf"(\d+)((?i:{FACTOR}))([A-Za-z/]*)\Z")
 LIMIT = re.compile(r"(\d+)(?:([kK])(?:[bB]\w*)?|([bB]\w*))?\Z")
 WITHOUT_EFFECT = {"droptail": "the queue is a drop-tail one anyway", "noerror": "a sender learns of no drop anyway"}
 WHOLE_MASKS = {

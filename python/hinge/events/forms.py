@@ -1,8 +1,11 @@
-"""The words of events, whose forms a help lists."""
+"""The words of events, whose forms a help lists, and what people write instead of lines with them."""
 
 from __future__ import annotations
 
-from typing import NamedTuple
+import re
+from typing import NamedTuple, Sequence
+
+from hingetulip_words.values import FACTOR, PER_SECOND
 
 
 class Word(NamedTuple):
@@ -11,25 +14,76 @@ class Word(NamedTuple):
     form: str
     effect: str
     ending: str = ""  # the word that ends it
+    within: "tuple[str, ...]" = ()  # other faults of a host, during which it changes nothing
+    none: str = ""  # of a word that ends others: what is missing where it is refused
+    is_write: bool = False  # which the links make, on hosts with cgroups
+    is_simulated: bool = False  # of simulated time alone
 
 
-OF_LINKS = {
+LINK_WORDS = {
     "cut": Word("cut A [from B ..] [up|down] [tcp|udp port N] [LENGTH]", "its links lose all; `up`: what it sends", "heal"),
-    "heal": Word("heal A [from B ..] [up|down] [tcp|udp port N]", "no cut or lossy outage goes on"),
+    "heal": Word("heal A [from B ..] [up|down] [tcp|udp port N]", "no cut or lossy outage goes on", none="no cut of such a link"),
 }
 ACTS = {
-    "kill": Word("kill HOST [LENGTH]", "all that runs there ends", "restart"),
-    "crash": Word("crash HOST [LENGTH]", "a kill that loses what isn't synced", "restart"),
+    "kill": Word("kill HOST [LENGTH]", "all that runs there ends", "restart", ("crash",), is_write=True),
+    "crash": Word("crash HOST [LENGTH]", "a kill that loses what isn't synced", "restart", is_simulated=True),
     "restart": Word("restart HOST", "its command begins again"),
-    "stop": Word("stop HOST [LENGTH]", "all that runs there stands still", "cont"),
-    "cont": Word("cont HOST", "it goes on"),
-    "skew": Word("skew HOST +2s [100ppm]", "its clock, in simulated time"),
+    "stop": Word("stop HOST [LENGTH]", "all that runs there stands still", "cont", ("kill", "crash"), is_write=True),
+    "cont": Word("cont HOST", "it goes on", none="no stop of such a host", is_write=True),
+    "skew": Word("skew HOST +2s [100ppm]", "its clock, in simulated time", is_simulated=True),
 }
-WORDS = OF_LINKS | ACTS
+WORDS = LINK_WORDS | ACTS
 ENDS = {name: word.ending for name, word in ACTS.items() if word.ending}
-SIMULATED = ("crash", "skew")  # those of simulated time alone
 OUTAGE = "[up|down] outage LENGTH [lossy [tcp|udp port N]]"
 PROTOCOLS = {"tcp": 6, "udp": 17}  # by whose ports a cut chooses packets
+HOST = r"([A-Za-z][\w-]*)"
+ACT = "|".join(WORDS)
+ALONE = "|".join(name for name in ACTS if name != "skew")
+NET_LINES = (  # what people write of a net, and the line that says it
+    (r"((?!nemesis).*) for (\d\S*)", r"\1 \2"),
+    (r"(?:after|at) (\S+?)[:,]? (.*)", r"at \1 \2"),
+    (r"(?:nodes|hosts|machines|servers|clients):? ([A-Za-z][\w-]*),? (.+)", r"host \1, and the others each in a line of its own"),
+    (r"(?:node|machine|vertex|container|service|server|client) (.+)", r"host \1"),
+    (r"(?:run|exec|command|cmd) ([A-Za-z].+)", r"host \1, in place of the line `host` that it has"),
+    (rf"([A-Za-z]\w*) ([A-Za-z]\w*) (\d+(?:ms|(?i:{FACTOR}{PER_SECOND})).*)", r"link \1 \2 \3"),
+    (r"(?:edge|connect|cable|wire|path) (.+)", r"link \1"),
+    (r"(\w+) ?<?-+>? ?([A-Za-z]\w*)( .*)?", r"link \1 \2\3"),
+    (r"link (\w[\w-]*?) ?(?:<?-+>?|,| and | to ) ?([A-Za-z][\w-]*)( .*)?", r"link \1 \2\3"),
+    (rf"(\d\S*) ((?:{ACT}|partition|disconnect|isolate|link) .*)", r"at \1 \2"),
+    (rf"((?:{ACT}|partition|disconnect|isolate) .*)", r"at 5s \1"),
+    (r"(at \S+) (?:pause|freeze) (.*)", r"\1 stop \2"),
+    (r"(at \S+) (?:resume|continue|unpause) (.*)", r"\1 cont \2"),
+    (r"(at \S+) (?:start|reboot) (.*)", r"\1 restart \2"),
+    (r"(at \S+) (?:reconnect|rejoin|restore) (.*)", r"\1 heal \2"),
+    (rf"at \S+ ((?:{ACT}) .*) at (\d\S*)", r"at \2 \1"),
+    (r"at (\S+) (?:link )?([\w -]*) down", r"at \1 cut \2"),
+    (r"at (\S+) link (.*) up", r"at \1 heal \2"),
+    (r"at (\S+) (?:partition|disconnect|isolate|split) ([\w ,<>|-]*)", r"at \1 cut \2"),
+    (rf"at (\S+) cut {HOST} \| (.*)", r"at \1 cut \2 from \3"),
+    (rf"at (\S+) (cut|heal) {HOST[:-1]}?) ?(?:<?-+>?|,| and | ) ?(?!from |until ){HOST}( \d\S*)?", r"at \1 \2 \3 from \4\5"),
+    (rf"at (\S+) (?:set|change|delay|rate|bandwidth|link) {HOST} {HOST} (\d.*)", r"at \1 \2 \3 \4"),
+    (rf"(at \S+ (?:{ALONE})) {HOST}(?: and |, ?| ){HOST}( \d\S*)?", r"\1 \2\4, and \1 \3\4 in a line of its own"),
+    (rf"at (\S+) loss {HOST} {HOST} (\d.*)", r"at \1 \2 \3 loss \4"),
+    (r"(?:\w+:|[-{[<]).*", "host NAME, and `link A B 20ms`, each in a line of its own, as a net is neither YAML nor JSON"),
+)
+CHANGES = (  # the same of a timeline
+    (r"(?:at|after) (.*)", r"\1"),
+    (r"(\d\S*?)[:,]? (?:link|change|set|to|->|=>) (.*)", r"\1 \2"),
+    (r"(\d\S*?)[:,] (.*)", r"\1 \2"),
+    (r"(\S+) lossy outage (\S+)", r"\1 outage \2 lossy"),
+    (r"(\S+) ((?:up |down )?outage) for (.*)", r"\1 \2 \3"),
+    (r"(\S+) ((?:up |down )?)(?:down|off|cut|disconnect|outage)", r"\1 \2outage 5s lossy"),
+    (r"(\S+) ((?:up |down )?)(?:off|cut|disconnect) (?:for )?(\d\S*)", r"\1 \2outage \3 lossy"),
+)
+
+
+def line_meant(text: str, forms: "Sequence[tuple[str, str]]" = NET_LINES) -> str:
+    """Returns a line of a net or timeline that means the same, or an empty text."""
+    line = text
+    for pattern, form in forms:
+        match = re.fullmatch(pattern, line)
+        line = match.expand(form) if match else line
+    return line if line != text else ""
 
 
 def help_lines() -> str:

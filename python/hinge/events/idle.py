@@ -8,10 +8,10 @@ from bisect import bisect_left, bisect_right
 from collections import defaultdict
 from typing import Container, NamedTuple, Sequence, Tuple, Union
 
-from hinge.events.kinds import Ends, HoldingOutage, TimedEvent
+from hinge.events.forms import ACTS, ENDS
+from hinge.events.kinds import FaultEnds, HoldingOutage, TimedEvent
 from hinge.run.words import LAST_MOMENT
 
-GONE_ON = {"kill": ("kill", "crash"), "crash": ("crash",), "stop": ("stop",), "cut": ("cut",), "hold": ("hold",)}
 Key = Tuple[bool, str, Union[int, str]]  # the base, and the kind of a fault of a way or a host
 
 
@@ -37,7 +37,8 @@ class FaultCourse:
     def __init__(self) -> None:
         self.spans, self.latest = list[FaultSpan](), list[int]()  # with the latest end up to each
         # Effective faults, joined, from the last one on, and their beginnings as numbers below 0, which ascend.
-        self.stretches, self.begins = list[FaultSpan](), list[int]()
+        self.stretches = list[FaultSpan]()
+        self.begins = list[int]()
 
     def add(self, span: FaultSpan) -> None:
         self.spans.append(span)
@@ -68,7 +69,9 @@ class NetFaults:
     """A net's effective faults, for each way and host."""
 
     def __init__(self, events: Sequence[TimedEvent], places: Sequence[int], idle: Container[int]) -> None:
-        self.events, self.ends, self.courses = events, Ends(events), defaultdict[Key, FaultCourse](FaultCourse)
+        self.events = events
+        self.ends = FaultEnds(events)
+        self.courses = defaultdict[Key, FaultCourse](FaultCourse)
         for place in places:
             if place not in idle and fault_kind(events[place]):
                 for one in events[place].event.of:
@@ -124,8 +127,8 @@ def idle_events(events: Sequence[TimedEvent], is_open: bool) -> "list[tuple[Time
     for place in reversed(places):
         kind = fault_kind(events[place])
         if kind and place not in why:
-            kinds = ("cut", kind) if events[place].event.port else GONE_ON[kind]
-            kinds += GONE_ON["kill"] if kind == "stop" and not is_open else ()
+            within = ACTS[kind].within if kind in ACTS else ("cut",) if events[place].event.port else ()
+            kinds = [kind, *(one for one in within if not is_open or ENDS.get(one) == ENDS.get(kind))]
             if found := faults.covering(place, kinds):
                 why[place] = found[0]
             else:

@@ -9,8 +9,7 @@ from typing import Iterator, NamedTuple, Optional, Sequence, Union
 
 from hinge.events.forms import ACTS, WORDS
 from hinge.run.words import LAST_MOMENT, SECOND
-from hingetulip_words.link import Link
-
+from hingetulip_words.link import LinkWords
 
 ENDINGS = {word.ending for word in WORDS.values() if word.ending}
 
@@ -84,7 +83,7 @@ class LossyOutage(HoldingOutage):
 class NewWords(Event):
     """Words that replace a link's words, after its ends in a net and the way's `up` or `down`."""
 
-    links: "tuple[Link, ...]" = ()
+    links: "tuple[LinkWords, ...]" = ()
     ends: str = ""
     side: str = ""
 
@@ -124,7 +123,7 @@ class TimedEvent(NamedTuple):
         return f"at {self.moment} {self.event.words}"
 
 
-class Act(NamedTuple):
+class PlannedAct(NamedTuple):
     """A host's fault, or its end."""
 
     moment: Moment
@@ -139,7 +138,7 @@ def kept(event: Event) -> Event:
     return replace(event, links=(), ends="") if isinstance(event, NewWords) else event
 
 
-class Ends:
+class FaultEnds:
     """The moments and places of events that end faults, in order, for each base, word, way or host, and port."""
 
     def __init__(self, events: Sequence[TimedEvent]) -> None:
@@ -164,7 +163,7 @@ class Ends:
 def fault_ends(events: Sequence[TimedEvent]) -> Iterator[tuple[int, int]]:
     """Pairs each fault's place with that of the event that ends the fault early, for each way or host. Moments with different bases
     can't be compared, and each such event counts as early."""
-    ends = Ends(events)
+    ends = FaultEnds(events)
     for place, (moment, event, _) in enumerate(events):
         for one in event.of if event.ending else ():
             firsts = ends.first(not moment.of_main, event, one, (-1, -1))

@@ -10,10 +10,10 @@ from hinge.events.kinds import Event, HoldingOutage, LossyOutage, NewLine, NewWo
 from hinge.run.words import WAYS, Wrong, bare, first_word, is_line, length_of, link_of
 from hingetulip_words.link import NO_WORDS
 
-BothWays = Callable[[str], "tuple[str, str]"]
+TwoWays = Callable[[str], "tuple[str, str]"]
 
 
-def port_of(words: "list[str]") -> Optional[Port]:
+def read_port(words: "list[str]") -> Optional[Port]:
     """Returns the port of `tcp port N` or `udp port N`, or None without words. Wrong: the words are others."""
     if not words:
         return None
@@ -28,7 +28,7 @@ def alike(text: str) -> "tuple[str, str]":
     return text, text
 
 
-def link_event(text: str, option: str, ends: str = "", link: int = 0, is_back: bool = False, both_ways: BothWays = alike) -> Event:
+def link_event(text: str, option: str, ends: str = "", link: int = 0, is_back: bool = False, both_ways: TwoWays = alike) -> Event:
     """Returns the event of `[up|down] LINK`, `[up|down] outage LENGTH [lossy]` or a configuration line. If `is_back`, the words
     name the link's second end first. Wrong: the text isn't a link's event; `option` is its place."""
     text, typed = bare(text), bare(f"{ends} {text}")
@@ -42,7 +42,7 @@ def link_event(text: str, option: str, ends: str = "", link: int = 0, is_back: b
         if len(words) == 1 or words[2:3] not in ([], ["lossy"]) or len(words) not in (2, 3, 6):
             raise Wrong(f"`{OUTAGE}`, LENGTH as 600ms")
         kind = LossyOutage if words[2:] else HoldingOutage
-        return kind(ways, typed, port_of(words[3:]), length_of(words[1]))
+        return kind(ways, typed, read_port(words[3:]), length_of(words[1]))
     if is_line(rest) and not side:
         return NewLine(ways, typed, line=rest)
     if not rest:

@@ -4,12 +4,12 @@ from __future__ import annotations
 
 from typing import TYPE_CHECKING, Container
 
-from hinge.events.forms import ACTS, ENDS, OF_LINKS, OUTAGE, PROTOCOLS, WORDS
+from hinge.events.forms import ACTS, ENDS, LINK_WORDS, OUTAGE, PROTOCOLS, WORDS
 from hinge.events.kinds import Cut, Event, Heal, HostAct
-from hinge.events.link_words import link_event, port_of
+from hinge.events.link_words import link_event, read_port
 from hinge.net.clocks import MOST_CLOCKS, clock_number, read_skew
 from hinge.net.disks import DISK
-from hinge.net.statements import NO_HOST, Statement
+from hinge.net.statements import UNKNOWN_HOST, Statement
 from hinge.run.words import LAST_MOMENT, WAYS, bare, placed
 
 if TYPE_CHECKING:
@@ -28,10 +28,10 @@ def read_event(statement: Statement, net: Description) -> Event:
     word = statement.peek()
     if word in ACTS:
         return read_act(statement, net)
-    if word in OF_LINKS:
+    if word in LINK_WORDS:
         return read_cut(statement, net)
     if word and word not in net.hosts:
-        raise statement.unknown(word, [*net.hosts, *WORDS], NO_HOST)
+        raise statement.unknown(word, [*net.hosts, *WORDS], UNKNOWN_HOST)
     whole = statement.rest
     link, is_back = net.between(statement, f"at TIME {OF_LINK}")
     ends = " ".join(whole[: len(whole) - len(statement.rest)].split())
@@ -46,14 +46,16 @@ def read_length(statement: Statement, form: str) -> int:
 
 def read_act(statement: Statement, net: Description) -> Event:
     """Returns the event on a host."""
-    word, typed, skew = statement.peek(), bare(statement.rest), ""
+    word = statement.peek()
+    typed = bare(statement.rest)
+    skew = ""
     form = f"at TIME {WORDS[word].form}"
     statement.take(form)
     host = net.room(statement, form)
     if word == "skew":
         if not clock_number(host, net.hosts):
             raise statement.wrong(host, f"the first {MOST_CLOCKS} hosts have clocks of their own")
-        skew = read_skew(statement).text()
+        skew = read_skew(statement)
     length = 0 if word == "crash" and not statement.peek() else read_length(statement, form) if word in ENDS else LAST_MOMENT
     statement.done(form)
     if word != "skew":
@@ -97,7 +99,7 @@ def read_cut(statement: Statement, net: Description) -> Event:
     if statement.peek() in net.hosts:
         raise statement.wrong(statement.peek(), f"write `from {statement.peek()}`: {form}")
     with placed(statement.place):
-        port = port_of([statement.take(form) for _ in range(3)] if is_word(statement, PROTOCOLS, net) else [])
+        port = read_port([statement.take(form) for _ in range(3)] if is_word(statement, PROTOCOLS, net) else [])
     length = read_length(statement, form) if WORDS[word].ending else LAST_MOMENT
     statement.done(form)
     return Cut(ways, typed, port, length) if WORDS[word].ending else Heal(ways, typed, port)

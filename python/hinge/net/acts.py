@@ -14,12 +14,12 @@ from typing import Callable, Iterator, NamedTuple, Optional
 
 from hinge.border.messages import ObeyedLine
 from hinge.events.forms import ENDS
-from hinge.events.kinds import Act
+from hinge.events.kinds import PlannedAct
 from hinge.run.host_lines import PATIENCE, HostLines
 from hinge.run.processes import Ticker, signal_group
 from hinge.run.words import SECOND, Wrong
 
-NEVER = 3600.0  # s, after which it is looked again
+LONGEST_LOOK = 3600.0  # s, after which it is looked again
 KILL_PATIENCE, KILL_POLL = 5.0, 0.001  # s
 
 
@@ -27,11 +27,11 @@ class Done(NamedTuple):
     """A finished act, with its moment on the links' clock."""
 
     moment: int  # ns
-    act: Act
+    act: PlannedAct
     is_idle: bool = False  # a fault of a host whose command had ended by itself, so that nothing ran there
 
 
-def line_of(act: Act) -> str:
+def act_line(act: PlannedAct) -> str:
     """Returns the act in the format of acts.h."""
     return f"act {act.word} {act.host} {act.fault}"
 
@@ -107,19 +107,23 @@ class Acts(Ticker):
 
     def __init__(
         self,
-        acts: list[Act],
+        acts: list[PlannedAct],
         lines: HostLines,
-        do: Callable[[Act], Callable[[], None]],
-        is_of_links: Callable[[Act], bool],
+        do: Callable[[PlannedAct], Optional[Callable[[], None]]],
+        is_of_links: Callable[[PlannedAct], bool],
         has_nothing: Callable[[str], bool],
         beside: Optional[Ticker] = None,
     ) -> None:
-        """`do` carries out an act, except the links' part, and returns the work that remains after its report. Another thread may
-        tick, too."""
-        self.planned, self.lines, self.do_act, self.is_of_links, self.beside = acts, lines, do, is_of_links, beside
+        """`do` carries out an act, except the links' part, and returns the work that remains after its report, if any. Another thread
+        may tick, too."""
+        self.planned = acts
+        self.lines = lines
+        self.do_act = do
+        self.is_of_links = is_of_links
+        self.beside = beside
         self.has_nothing = has_nothing
-        self.pending: list[tuple[float, Act]] = []  # by the monotonic clock
-        self.asked: queue.SimpleQueue[tuple[list[Act], queue.SimpleQueue[Done]]] = queue.SimpleQueue()
+        self.pending: list[tuple[float, PlannedAct]] = []  # by the monotonic clock
+        self.asked: queue.SimpleQueue[tuple[list[PlannedAct], queue.SimpleQueue[Done]]] = queue.SimpleQueue()
         self.done: list[Done] = []
         self.rests: list[tuple[str, Callable[[], None]]] = []  # what is left to do of acts, by hosts
         self.killed_at: dict[str, float] = {}  # when hosts were killed last by a plan, by the monotonic clock
@@ -129,13 +133,13 @@ class Acts(Ticker):
         """Starts the timetable of a base: now is `moment` on the links' clock (0 for the main command's base)."""
         self.add([act for act in self.planned if act.moment.of_main == of_main], moment)
 
-    def add(self, acts: list[Act], moment: int) -> None:
+    def add(self, acts: list[PlannedAct], moment: int) -> None:
         now = time.monotonic()
         self.pending += [(now + (act.moment.ns - moment) / SECOND, act) for act in acts]
         self.pending.sort(key=lambda one: one[0])
 
     def left(self) -> float:
-        act = max(0.0, self.pending[0][0] - time.monotonic()) if self.pending else NEVER
+        act = max(0.0, self.pending[0][0] - time.monotonic()) if self.pending else LONGEST_LOOK
         return min(act, self.beside.left()) if self.beside else act
 
     def tick(self) -> None:
@@ -155,13 +159,13 @@ class Acts(Ticker):
             acts, reply = self.asked.get()
             for one in filter(self.is_of_links, acts):
                 length = one.moment.ns - acts[0].moment.ns
-                self.lines.ask(f"at {length} {line_of(one)}" if length else f"line {line_of(one)}")
+                self.lines.ask(f"at {length} {act_line(one)}" if length else f"line {act_line(one)}")
             result = self.carry_out(acts[0])
             self.finish(acts[0].host)
             reply.put(result)
             self.add(acts[1:], acts[0].moment.ns)
 
-    def carry_out(self, act: Act) -> Done:
+    def carry_out(self, act: PlannedAct) -> Done:
         may_be_idle = act.word in ENDS and not self.goes_on(act.host, "restart")
         if self.is_held(act):
             return Done(act.moment.ns, act)
@@ -170,7 +174,7 @@ class Acts(Ticker):
         rest = self.do_act(act)
         moment, met_nothing = self.told_of(act)
         self.done.append(Done(moment, act, is_idle or may_be_idle and met_nothing))
-        self.rests.append((act.host, rest))
+        self.rests += [(act.host, rest)] if rest else []
         return self.done[-1]
 
     def note_later(self, host: str, moment: int) -> None:
@@ -178,7 +182,7 @@ class Acts(Ticker):
         place = max(place for place, one in enumerate(self.done) if one.act.host == host)
         self.done[place] = self.done[place]._replace(moment=moment)
 
-    def told_of(self, act: Act) -> tuple[int, bool]:
+    def told_of(self, act: PlannedAct) -> tuple[int, bool]:
         """Returns the moment of an act in ns on the links' clock. The links report the moments of their acts, and whether a fault found
         no process."""
         if not self.is_of_links(act):
@@ -193,7 +197,7 @@ class Acts(Ticker):
             self.rests.remove(one)
             one[1]()
 
-    def is_held(self, act: Act) -> bool:
+    def is_held(self, act: PlannedAct) -> bool:
         """Returns whether the act would end a fault while another fault of the same kind is still in progress on the host.
 
         An act without a fault number was written as a separate line, and ends all of them.
@@ -213,7 +217,7 @@ class Acts(Ticker):
         """Returns whether a host's command will be started again."""
         return any(act.word == "restart" for _, act in self.pending)
 
-    def ask(self, acts: list[Act]) -> ObeyedLine:
+    def ask(self, acts: list[PlannedAct]) -> ObeyedLine:
         """Runs in another thread: makes the first process carry out an act now, and schedules the others at their moments.
 
         Wrong: the net is about to end.

@@ -11,8 +11,8 @@ import signal
 import sys
 from typing import NoReturn
 
-from hinge.border.terminal import show
 from hinge.border.programs import can_be_read
+from hinge.border.terminal import show
 from hinge.checks.lines import twice
 from hinge.command import NAME, say
 from hinge.command import run as run_command
@@ -27,9 +27,8 @@ from hinge.paths.folder import HISTORY, NET, SUMMARY
 from hinge.run.changes import Change, refuse_second
 from hinge.run.first import BLOCKED, exit_as, first_process
 from hinge.run.host import program
-from hinge.run.idle import refuse_idle, refuse_idle_seed
-from hinge.run.plan_of_options import draws, drawn_seed, limit_of
 from hinge.run.outside import Outside
+from hinge.run.plan_of_options import drawn_seed, draws, limit_of, refuse_idle, refuse_idle_seed
 from hinge.run.rooms import leave_the_system
 from hinge.run.settings import NetOptions
 from hinge.run.system import is_simulated
@@ -76,7 +75,7 @@ def show_net(net: Description) -> None:
         show(
             f"{name} switch"
             if host.is_switch
-            else f"{name} {' '.join(ends.own[name])}{' router' * host.forwards}{' main' * (name == net.main)}"
+            else f"{name} {' '.join(ends.own[name])}{' router' * host.forwards}{' main' if name == net.main else ''}"
             f"{f': {host.command}' if host.command else ''}"
         )
     for number, link in enumerate(net.links):
@@ -111,7 +110,7 @@ def run(arguments: NetOptions) -> None:
     refuse_idle_seed(is_of_links, draws(net_plan.plan) or bool(net_plan.drawn))
     if arguments.dry_run:
         show_net(net)
-        for line in [*[f"# by seed {seed}"] * bool(net_plan.drawn), *net_plan.drawn]:
+        for line in [*([f"# by seed {seed}"] if net_plan.drawn else []), *net_plan.drawn]:
             show(line)
         return
     arguments = with_files(arguments)

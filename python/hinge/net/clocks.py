@@ -3,7 +3,7 @@
 from __future__ import annotations
 
 import re
-from typing import Iterable, NamedTuple
+from typing import Iterable
 
 from hinge.net.statements import Statement
 from hinge.run.system import try_to_write
@@ -16,19 +16,9 @@ MOST_PPM = 100_000
 IN_REAL_TIME = "hosts have clocks of their own in simulated time alone; add --simulated"
 
 
-class Skew(NamedTuple):
-    """A clock's offset, and its drift from then on."""
-
-    ahead: int  # ns
-    gains: int  # ns a second
-
-    def text(self) -> str:
-        """Returns the skew in the kernel's format."""
-        return f"{self.ahead} {self.gains}"
-
-
-def read_skew(statement: Statement) -> Skew:
-    """Reads a skew such as `+2s`, `-300ms 100ppm` or `+0s -50.5ppm`. Wrong: the words are no skew."""
+def read_skew(statement: Statement) -> str:
+    """Returns the kernel's words for a skew such as `+2s`, `-300ms 100ppm` or `+0s -50.5ppm`: the ns by which a clock is ahead, and the
+    ns that it gains each second from then on. Wrong: the words are no skew."""
     word = statement.take(SKEW)
     if word[0] not in "+-":
         raise statement.wrong(word, f"how far the clock is ahead, as +2s, or behind, as -2s: {SKEW}")
@@ -38,7 +28,7 @@ def read_skew(statement: Statement) -> Skew:
     match = re.fullmatch(r"([+-]?\d{1,6}(?:\.\d{1,3})?)ppm", gains, re.ASCII)
     if not match or abs(float(match[1])) > MOST_PPM:
         raise statement.wrong(gains, f"what the clock gains, as 100ppm or -50.5ppm, at most {MOST_PPM}ppm: {SKEW}")
-    return Skew(ahead, round(float(match[1]) * 1000))
+    return f"{ahead} {round(float(match[1]) * 1000)}"
 
 
 def clock_number(host: str, hosts: Iterable[str]) -> int:

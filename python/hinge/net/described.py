@@ -57,7 +57,9 @@ class Described:
         if preset is not None:
             link, back = either_way(preset, link, back)
         elif link is None:
-            link, back, self.unsaid = self.default[0], self.default[1] if back is None else back, self.unsaid + 1
+            link = self.default[0]
+            back = self.default[1] if back is None else back
+            self.unsaid = self.unsaid + 1
         ways = [link or ""] if back is None else [link or "", back]
         for way in ways:
             try:

@@ -10,7 +10,7 @@ from typing import Callable, NamedTuple, Optional
 from hinge.arguments import is_number
 from hinge.events.forms import WORDS as WORDS_OF_EVENTS
 from hinge.net.disks import DISK, Disk, read_disk
-from hinge.net.statements import NO_HOST, Statement, statements
+from hinge.net.statements import UNKNOWN_HOST, Statement, statements
 from hinge.run.words import Wrong, bytes_of_mtu, placed
 
 NAME = re.compile(r"[A-Za-z][A-Za-z0-9-]{0,62}", re.ASCII)
@@ -26,7 +26,7 @@ MOST_PORTS = 254  # hosts at switches that are joined, as addresses of IPv4 end 
 
 
 @dataclass
-class Host:
+class NetHost:
     name: str
     forwards: bool = False
     is_switch: bool = False
@@ -64,7 +64,7 @@ class Wait:
 
 @dataclass
 class Description:
-    hosts: dict[str, Host] = field(default_factory=dict)
+    hosts: dict[str, NetHost] = field(default_factory=dict)
     links: list[NetLink] = field(default_factory=list)
     waits: list[Wait] = field(default_factory=list)
     of_links: list[Statement] = field(default_factory=list)  # what is said of links, for plan.py
@@ -100,7 +100,7 @@ class Description:
         if name not in self.hosts:
             may_be = statement.number > 0 and statement.word != "at" and NAME.fullmatch(name) and name not in KEYWORDS
             hosts = f"it has {', '.join(list(self.hosts)[:MOST_NAMED])}"
-            raise statement.unknown(name, self.hosts, NO_HOST, f"write host {name}" if may_be else hosts)
+            raise statement.unknown(name, self.hosts, UNKNOWN_HOST, f"write host {name}" if may_be else hosts)
         return name
 
     def is_room(self, name: str) -> bool:
@@ -113,7 +113,7 @@ class Description:
             raise statement.wrong(name, "a switch, on which nothing runs")
         return name
 
-    def declare(self, statement: Statement, form: str, forwards: bool = False) -> Host:
+    def declare(self, statement: Statement, form: str, forwards: bool = False) -> NetHost:
         name = statement.take(form)
         if name in TAKEN:
             raise statement.wrong(name, "a word with a meaning of its own; take another name")
@@ -121,7 +121,7 @@ class Description:
             raise statement.wrong(name, "a name has letters, digits and hyphens, begins with a letter and has at most 63")
         if name in self.hosts:
             raise statement.wrong(name, "a second host of this name")
-        self.hosts[name] = Host(name, forwards, command=statement.rest)
+        self.hosts[name] = NetHost(name, forwards, command=statement.rest)
         return self.hosts[name]
 
     def main_of(self, statement: Statement) -> None:
@@ -154,7 +154,7 @@ class Description:
         while statement.peek() in self.hosts:
             members.append(statement.take(SWITCH))
         if not members:
-            raise statement.unknown(statement.peek(), self.hosts, f"{NO_HOST}: {SWITCH}")
+            raise statement.unknown(statement.peek(), self.hosts, f"{UNKNOWN_HOST}: {SWITCH}")
         statement.refuse_twice(members)
         for member in members:
             self.add_link(statement, member, name, statement.rest)
@@ -180,7 +180,8 @@ class Description:
         self.has_routes = False
 
     def wait(self, statement: Statement) -> None:
-        host, word = self.room(statement, WAIT), statement.take(WAIT)
+        host = self.room(statement, WAIT)
+        word = statement.take(WAIT)
         port = statement.take(WAIT)
         if word != "port" or not is_number(port) or not 1 <= int(port) <= 65535:
             raise statement.wrong(f"{word} {port}", f"no port from 1 to 65535: {WAIT}")
@@ -229,7 +230,9 @@ class Description:
 
     def ports(self) -> dict[tuple[int, str], Port]:
         """Returns the links' ends at switches, by link (from 0) and host."""
-        union, table, last = self.joined_switches(), dict[tuple[int, str], Port](), dict[str, Port]()
+        union = self.joined_switches()
+        table = dict[tuple[int, str], Port]()
+        last = dict[str, Port]()
         for number, link in enumerate(self.links):
             for name in link.ends:
                 switch = link.other(name)
@@ -262,7 +265,7 @@ FOLLOWS: tuple[dict[str, Does], ...] = (
         },
     },
 )
-WORDS = sorted({word for kinds in FOLLOWS for word in kinds})
+LINE_WORDS = sorted({word for kinds in FOLLOWS for word in kinds})
 
 
 def read_description(path: str) -> Description:
@@ -270,8 +273,8 @@ def read_description(path: str) -> Description:
     link."""
     net, lines = Description(), list[Statement]()
     for statement in statements(path):
-        if statement.word not in WORDS:
-            raise statement.unknown(statement.word, WORDS, "not a word of a net", f"write one of {', '.join(WORDS)}")
+        if statement.word not in LINE_WORDS:
+            raise statement.unknown(statement.word, LINE_WORDS, "not a word of a net", f"write one of {', '.join(LINE_WORDS)}")
         lines.append(statement)
     for kinds in FOLLOWS:
         for statement in lines:

@@ -14,7 +14,7 @@ from hinge.run.system import NEWNS, Missing, join, unshare
 from hinge.run.words import Wrong
 
 if TYPE_CHECKING:
-    from hinge.net.description import Host
+    from hinge.net.description import NetHost
 
 DISK = "disk HOST PATH [SIZE]"
 PLACE = "/run/disks"  # of the simulated machine's first process
@@ -41,7 +41,7 @@ def read_disk(statement: Statement) -> Disk:
     return Disk(path, size)
 
 
-def refuse_disks(path: str, hosts: Iterable[Host], simulated: bool) -> None:
+def refuse_disks(path: str, hosts: Iterable[NetHost], simulated: bool) -> None:
     """Wrong: the net has disks, but runs in real time. Missing: the program that creates disks isn't installed."""
     if any(host.disks for host in hosts):
         if not simulated:
@@ -70,7 +70,7 @@ class Disks:
     A host with disks uses a mount namespace that outlives the host's processes, so a process that ends writes nothing to the disk.
     """
 
-    def __init__(self, hosts: Iterable[Host]) -> None:
+    def __init__(self, hosts: Iterable[NetHost]) -> None:
         numbers = count(1)
         self.of = {host.name: [(next(numbers), disk) for disk in host.disks] for host in hosts if host.disks}
         self.mounts: dict[str, list[int]] = {}

@@ -7,13 +7,14 @@ from typing import Callable, Iterator, NamedTuple, Optional, Union
 
 from hinge.border.files import Budget
 from hinge.captures.random_words import word
+from hinge.events.forms import ENDS
 from hinge.events.kinds import Cut, Event, HostAct, spelled_ns
 from hinge.events.parsed import refuse_act
 from hinge.net.description import Description
 from hinge.net.statements import Statement
 from hinge.run.words import SECOND, Wrong, duration, placed
 
-FORM = "nemesis KIND every TIME for TIME [from TIME] [until TIME] [of HOST ..]"
+NEMESIS = "nemesis KIND every TIME for TIME [from TIME] [until TIME] [of HOST ..]"
 LASTING = 3600 * SECOND  # without `until`
 MOST_ACTS = 10_000
 MOST_DRAWS = 1 << 22  # random numbers of a net
@@ -42,7 +43,10 @@ class Draw:
     """The random choices for one nemesis."""
 
     def __init__(self, seed: int, place: int, budget: Budget) -> None:
-        self.seed, self.stream, self.count, self.budget = seed, STREAM + place, 0, budget
+        self.seed = seed
+        self.stream = STREAM + place
+        self.count = 0
+        self.budget = budget
 
     def below(self, limit: int) -> int:
         self.count += 1
@@ -65,8 +69,8 @@ class Draw:
         return span.least + (step * self.below(length // step + 1) if length else 0)
 
 
-Fault = Union[Cut, HostAct]  # of a length that is drawn behind it
-Kind = Callable[[Description, list[str], Draw], list[Fault]]
+RandomFault = Union[Cut, HostAct]  # of a length that is drawn behind it
+Kind = Callable[[Description, list[str], Draw], list[RandomFault]]
 
 
 @dataclass(frozen=True)
@@ -89,40 +93,42 @@ def placed_hosts(hosts: list[str]) -> dict[str, int]:
 
 
 def cut(net: Description, one: str, *others: str) -> Cut:
-    return Cut(net.ways_between(one, others), " ".join(["cut", one, *["from"] * bool(others), *others]))
+    return Cut(net.ways_between(one, others), " ".join(["cut", one, *(["from"] if others else []), *others]))
 
 
-def cuts(net: Description, are_parted: Callable[[str, str], bool], ones: list[str], hosts: list[str]) -> list[Fault]:
+def cuts(net: Description, are_parted: Callable[[str, str], bool], ones: list[str], hosts: list[str]) -> list[RandomFault]:
     """Returns the cuts between hosts and the hosts on the other side, each link once."""
-    faults, rest = list[Fault](), placed_hosts(hosts)
+    faults, rest = list[RandomFault](), placed_hosts(hosts)
     for one in ones:
         del rest[one]
         others = [other for other in linked(net, one, rest) if are_parted(one, other)]
-        faults += [cut(net, one, *others)] * bool(others)
+        if others:
+            faults.append(cut(net, one, *others))
     return faults
 
 
-def halves(net: Description, hosts: list[str], draw: Draw) -> list[Fault]:
+def halves(net: Description, hosts: list[str], draw: Draw) -> list[RandomFault]:
     ones = draw.some(hosts, len(hosts) // 2)
     own = {*ones}
     return cuts(net, lambda _, other: other not in own, ones, hosts)
 
 
-def one_apart(net: Description, hosts: list[str], draw: Draw) -> list[Fault]:
+def one_apart(net: Description, hosts: list[str], draw: Draw) -> list[RandomFault]:
     return cuts(net, lambda *_: True, draw.some(hosts, 1), hosts)
 
 
-def ring(net: Description, hosts: list[str], draw: Draw) -> list[Fault]:
+def ring(net: Description, hosts: list[str], draw: Draw) -> list[RandomFault]:
     """Arranges the hosts in a random ring, in which each reaches only its two neighbours."""
     order = draw.shuffled(hosts)
     near = {one: {order[at - 1], order[(at + 1) % len(order)], one} for at, one in enumerate(order)}
     return cuts(net, lambda one, other: other not in near[one], hosts, hosts)
 
 
-def majorities(net: Description, hosts: list[str], draw: Draw) -> list[Fault]:
+def majorities(net: Description, hosts: list[str], draw: Draw) -> list[RandomFault]:
     """Cuts links in random order while each host still reaches a majority, counting itself."""
     table: dict[str, set[str]] = {name: set() for name in hosts}
-    spare, places = len(hosts) - (len(hosts) // 2 + 1), placed_hosts(hosts)
+    spare = len(hosts) - (len(hosts) // 2 + 1)
+    places = placed_hosts(hosts)
     for one in draw.shuffled(hosts):
         for two in draw.shuffled([name for name in linked(net, one, places) if name not in table[one]]):
             if len(table[one]) < spare and len(table[two]) < spare:
@@ -131,41 +137,39 @@ def majorities(net: Description, hosts: list[str], draw: Draw) -> list[Fault]:
     return cuts(net, lambda one, other: other in table[one], hosts, hosts)
 
 
-def isolated(net: Description, hosts: list[str], draw: Draw) -> list[Fault]:
+def isolated(net: Description, hosts: list[str], draw: Draw) -> list[RandomFault]:
     return [cut(net, *draw.some(hosts, 1))]
 
 
 def of_one(act: str) -> Kind:
-    def drawn(net: Description, hosts: list[str], draw: Draw) -> list[Fault]:
+    def drawn(net: Description, hosts: list[str], draw: Draw) -> list[RandomFault]:
         (host,) = draw.some(hosts, 1)
         return [HostAct((host,), f"{act} {host}", word=act)]
 
     return drawn
 
 
+OF_COMMANDS = {f"{act}-one": act for act in ENDS}
 KINDS: dict[str, Kind] = {
     "partition-halves": halves,
     "partition-one": one_apart,
     "partition-ring": ring,
     "partition-majorities": majorities,
     "isolate-one": isolated,
-    "kill-one": of_one("kill"),
-    "crash-one": of_one("crash"),
-    "stop-one": of_one("stop"),
+    **{kind: of_one(act) for kind, act in OF_COMMANDS.items()},
 }
 LEAST = {"partition-halves": 2, "partition-one": 2, "partition-ring": 4, "partition-majorities": 3}  # hosts
-OF_COMMANDS = ("kill-one", "crash-one", "stop-one")
 
 
 def named_hosts(net: Description, statement: Statement, kind: str) -> list[str]:
     """Returns the hosts after `of`, or by default all hosts except routers and the main command's host."""
     if statement.peek() == "of":
-        statement.take(FORM)
+        statement.take(NEMESIS)
         items = []
         while statement.peek():
-            items.append((net.room if kind in OF_COMMANDS else net.host)(statement, FORM))
+            items.append((net.room if kind in OF_COMMANDS else net.host)(statement, NEMESIS))
             if kind in OF_COMMANDS:
-                refuse_act(statement, net, kind.removesuffix("-one"), items[-1], True)
+                refuse_act(statement, net, OF_COMMANDS[kind], items[-1], True)
     else:
         items = [
             name
@@ -181,7 +185,7 @@ def named_hosts(net: Description, statement: Statement, kind: str) -> list[str]:
     least = LEAST.get(kind, 1)
     statement.refuse_twice(items)
     if len(items) < least:
-        raise statement.wrong(kind, f"it takes {least} host{'s' * (least > 1)} or more")
+        raise statement.wrong(kind, f"it takes {least} host{'s' if least > 1 else ''} or more")
     places = placed_hosts(items)
     if kind in LEAST and not any(linked(net, name, places) for name in items):
         raise statement.wrong(
@@ -195,18 +199,19 @@ def span_behind(statement: Statement, key: str, otherwise: Optional[TimeSpan] = 
     if statement.peek() != key:
         if otherwise is not None:
             return otherwise
-        raise statement.wrong(statement.peek(), f"`{key}` is missing: {FORM}")
-    statement.take(FORM)
+        raise statement.wrong(statement.peek(), f"`{key}` is missing: {NEMESIS}")
+    statement.take(NEMESIS)
     with placed(statement.place):
-        return read_span(statement.take(FORM))
+        return read_span(statement.take(NEMESIS))
 
 
 def read_nemesis(net: Description, statement: Statement) -> Nemesis:
-    kind = statement.take(FORM)
+    kind = statement.take(NEMESIS)
     if kind not in KINDS:
         raise statement.unknown(kind, KINDS, "not a nemesis", f"write one of {', '.join(KINDS)}")
     every, lasting = span_behind(statement, "every"), span_behind(statement, "for")
-    first, until = span_behind(statement, "from", every), span_behind(statement, "until", TimeSpan(LASTING, LASTING)).most
+    first = span_behind(statement, "from", every)
+    until = span_behind(statement, "until", TimeSpan(LASTING, LASTING)).most
     if not 0 < lasting.least <= lasting.most <= every.least:
         raise statement.wrong(
             spelled_ns(lasting.most), f"write more than 0s, and at most {spelled_ns(every.least)}, the least time to the next fault"

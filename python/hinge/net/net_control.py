@@ -30,7 +30,7 @@ def opened_control(net: NetInside) -> Optional[Control]:
         if isinstance(event, HostAct) and event.word == "cont" and not net.acts.goes_on(event.host, "cont"):
             raise Wrong(f"cont: {event.host} isn't stopped")
         if isinstance(event, HostAct) and event.ending == "restart" and net.has_nothing(event.host):
-            begun = f"; `restart {event.host}` begins its command" * bool(net.net.hosts[event.host].command)
+            begun = f"; `restart {event.host}` begins its command" if net.net.hosts[event.host].command else ""
             raise Wrong(f"{event.word}: nothing runs on {event.host}{begun}")
         if isinstance(event, HostAct):
             net.lines.ask(f"line remark change,{words}")

@@ -15,8 +15,8 @@ from hinge.border.files import opened_log
 from hinge.border.terminal import silence
 from hinge.border.programs import can_be_read
 from hinge.command import say
-from hinge.events.kinds import Act
-from hinge.net.acts import Acts, GroupProcesses, HostProcesses, line_of, sees_own_processes
+from hinge.events.kinds import PlannedAct
+from hinge.net.acts import Acts, GroupProcesses, HostProcesses, act_line, sees_own_processes
 from hinge.run.cgroups import OF_LINKS, Cgroups
 from hinge.net.clocks import clock_number, set_clock, take_clock
 from hinge.net.description import Wait
@@ -35,6 +35,7 @@ from hinge.run.rooms import start, this_network
 from hinge.run.system import enter, is_simulated, try_to_write
 from hinge.run.users import make_terminals
 from hinge.run.verdict import Waits
+from hinge.run.words import Wrong
 
 WATCHED = {signal.SIGCHLD, signal.SIGTERM, signal.SIGHUP}
 LISTEN_POLL = 0.01  # s
@@ -46,13 +47,12 @@ PRIORITY = 8  # behind the links and the writer of their transcript
 NO_PRIORITY = "the links don't come before other programs, as the system doesn't allow it (as root, or with `ulimit -r 10`)"
 
 
-def nothing() -> None:
-    """Does nothing: a completed act has no remaining work."""
-
-
 class NetInside:
     def __init__(self, order: NetOrder, own_users: bool, outside: Optional[Outside]) -> None:
-        self.order, self.options, self.net, self.own_users = order, order.options, order.net, own_users
+        self.order = order
+        self.options = order.options
+        self.net = order.net
+        self.own_users = own_users
         self.page = Page(2 * len(self.net.links))
         self.processes = Processes(WATCHED if self.net.main or self.options.shell else WATCHED | {signal.SIGINT})
         self.network = this_network()  # of no host
@@ -90,22 +90,23 @@ class NetInside:
         """Returns whether no process runs on a host."""
         return self.linked[host].has_nothing() if host in self.linked else not self.on_host(host).all()
 
-    def act(self, act: Act) -> Callable[[], None]:
-        """Carries out an act on a host's processes or clock, except the links' part. Returns the remaining work, which may wait."""
-        if act.word == "skew":
-            set_clock(clock_number(act.host, self.net.hosts), act.more)
-        elif self.is_of_links(act):
-            rest: Callable[[], None] = partial(self.see_gone, act.host)
-            return rest if act.word == "kill" else nothing
-        elif act.host in self.linked:
-            self.linked[act.host].empty()
-        else:
-            on_host = self.on_host(act.host)
-            {"stop": on_host.stop, "cont": on_host.cont}.get(act.word, on_host.kill)()
+    def act(self, act: PlannedAct) -> Optional[Callable[[], None]]:
+        """Carries out an act on a host's processes or clock, except the links' part. Returns the remaining work, if any, which may
+        wait. Wrong: hosts know no such act."""
+        if self.is_of_links(act):
+            return partial(self.see_gone, act.host) if act.word == "kill" else None
+        clock = clock_number(act.host, self.net.hosts)
+        on_host = self.on_host(act.host)
+        linked = self.linked.get(act.host)
+        works = dict.fromkeys(("kill", "crash", "restart"), linked.empty if linked else on_host.kill)
+        works |= {"stop": on_host.stop, "cont": on_host.cont, "skew": partial(set_clock, clock, act.more)}
+        if act.word not in works:
+            raise Wrong(f"{act.word}: no act on a host")
+        works[act.word]()
         self.processes.reap()
         if act.word == "crash":
             self.disks.ask("lose", act.host)
-        return self.begun_again(act.host) if act.word == "restart" else nothing
+        return self.begun_again(act.host) if act.word == "restart" else None
 
     def begun_again(self, host: str) -> Callable[[], None]:
         """Starts a host's command again. Returns the wait until the command is on the host, where kills find it. A stopped host's cgroup
@@ -278,7 +279,9 @@ class NetInside:
         status = self.lasted(link)
         endings = self.ended()
         link.end()
-        counts, drops, unforwarded = self.page.read(), self.rooms.dropped(), self.rooms.unforwarded()
+        counts = self.page.read()
+        drops = self.rooms.dropped()
+        unforwarded = self.rooms.unforwarded()
         ran = NetRan(status, counts, drops, endings, unforwarded, self.acts.done, self.main_moment, self.missing)
         return report_net(self.order, ran, None if is_simulated() else self.waits)
 
@@ -291,8 +294,8 @@ class NetInside:
         if names := list(self.acts.stopped()):
             self.lines.ask("line remark ending")
         for name in names:
-            act = Act(self.order.made.moment("0s"), "cont", name)
-            self.lines.ask(f"line {line_of(act)}") if self.is_of_links(act) else self.act(act)
+            act = PlannedAct(self.order.made.moment("0s"), "cont", name)
+            self.lines.ask(f"line {act_line(act)}") if self.is_of_links(act) else self.act(act)
         endings = self.processes.endings(self.started, self.begun, self.order.end_wait)
         self.cgroups.remove()
         victims = [name for name, one in endings.items() if one.by == "itself" and self.was_killed(name)]

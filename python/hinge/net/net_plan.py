@@ -12,10 +12,11 @@ from typing import Iterator
 from hinge.border.files import MOST_SAID, Budget, untrusted
 from hinge.captures.rule_words import NETS
 from hinge.checks.lines import judged_lines, refuse_long
-from hinge.events.kinds import Act, Event, HostAct, Moment, NewLine, NewWords, TimedEvent, fault_ends, kept
+from hinge.events.forms import WORDS
+from hinge.events.kinds import PlannedAct, Event, HostAct, Moment, NewLine, NewWords, TimedEvent, fault_ends, kept
 from hinge.events.parsed import read_event
 from hinge.net.description import Description
-from hinge.net.nemesis import FORM, MOST_DRAWS, OF_MOMENTS, SPAN, Draw, drawn_events, read_nemesis, read_span
+from hinge.net.nemesis import NEMESIS, MOST_DRAWS, OF_MOMENTS, SPAN, Draw, drawn_events, read_nemesis, read_span
 from hinge.net.net_rooms import own_addresses
 from hinge.net.statements import Statement, Unobeyed
 from hinge.run.changes import Change, Changes, Happening
@@ -25,10 +26,9 @@ from hingetulip_words.explained import explained
 from hingetulip_words.link import Place
 
 LOSS, LINE, MAP = "loss A B [N] MODEL", "line A B [N] LINE", "map A B [N] RULE"
-FAULTS, TRACE, AT = "faults FILE", "trace A B [N] FILE", "at TIME EVENT"
+FAULTS_LINE, TRACE, AT = "faults FILE", "trace A B [N] FILE", "at TIME EVENT"
 BACK = {"up": "down", "down": "up"}
 BASES = ("start", "main")
-NOTHING = {"heal": "no cut of such a link", "cont": "no stop of such a host"}  # of words that end others
 TRACE_LASTING = 3600 * 10**9  # ns
 
 
@@ -53,10 +53,11 @@ class NetPlan:
         self.places: list[tuple[bool, int, str, Statement]] = []  # base, moment, line, and where it was said
         self.events: list[TimedEvent] = []  # of all lines `at`
         self.lines_at: list[Statement] = []  # where each was said
-        self.acts: list[Act] = []
+        self.acts: list[PlannedAct] = []
         self.host_faults = count(1)
         self.seed, self.draws, self.nemeses = seed, Budget(MOST_DRAWS, "random numbers"), count()
-        self.moments, self.rest = Draw(seed, OF_MOMENTS, self.draws), Budget(MOST_SAID, "events of links and hosts")
+        self.moments = Draw(seed, OF_MOMENTS, self.draws)
+        self.rest = Budget(MOST_SAID, "events of links and hosts")
         for number, link in enumerate(net.links):
             for way, text in enumerate(link.ways):
                 words = link_of(text, link.statement.place, Place.KERNELS)
@@ -124,7 +125,7 @@ class NetPlan:
         )
 
     def faults(self, statement: Statement) -> None:
-        self.plan.faults(self.file(statement, FAULTS), self.net.ways(), is_net=True)
+        self.plan.faults(self.file(statement, FAULTS_LINE), self.net.ways(), is_net=True)
 
     def file(self, statement: Statement, form: str) -> str:
         """Returns the path in a statement's last word."""
@@ -158,7 +159,7 @@ class NetPlan:
 
     def nemesis(self, statement: Statement) -> None:
         read = read_nemesis(self.net, statement)
-        statement.done(FORM)
+        statement.done(NEMESIS)
         for moment, event in drawn_events(self.net, read, Draw(self.seed, next(self.nemeses), self.draws)):
             self.add(TimedEvent(Moment(moment, self.has_main, ""), event, True), statement)
 
@@ -183,19 +184,22 @@ class NetPlan:
             return [Change(ns, line)]
         return self.plan.happenings(event, ns, changes)
 
-    def acts_of(self, event: HostAct, moment: Moment) -> list[Act]:
+    def acts_of(self, event: HostAct, moment: Moment) -> list[PlannedAct]:
         """Returns an event's acts: the start, and the end if the event ends by itself."""
         fault = next(self.host_faults) if event.ending else 0
-        start = Act(moment, event.word, event.host, fault, event.skew)
+        start = PlannedAct(moment, event.word, event.host, fault, event.skew)
         end = moment._replace(ns=moment.ns + event.length)
-        return [start, *[Act(end, event.ending, event.host, fault)] * (event.ending != "" and event.length < LAST_MOMENT)]
+        return [
+            start,
+            *([PlannedAct(end, event.ending, event.host, fault)] if event.ending != "" and event.length < LAST_MOMENT else []),
+        ]
 
     def judge_ends(self) -> None:
         """Wrong: a heal ends no cut that goes on then, or a cont no stop."""
         ends = {end for _, end in fault_ends(self.events)}
         for place, (one, statement) in enumerate(zip(self.events, self.lines_at)):
-            if one.event.word in NOTHING and place not in ends:
-                raise Wrong(f"{statement.place}: {one.event.word!r}: {NOTHING[one.event.word]} goes on then")
+            if place not in ends and (word := WORDS.get(one.event.word)) and word.none:
+                raise Wrong(f"{statement.place}: {one.event.word!r}: {word.none} goes on then")
 
     def judge(self) -> None:
         """Lets the emulator check all lines in order before anything starts. Unobeyed: it rejects a line."""

@@ -82,7 +82,7 @@ class NetEnds:
         """Returns the name of a link's end at a host: `b.a` is b's end on its link to a, and `b.a.2` on the second such link."""
         other = self.net.links[link].other(name)
         place = [number for number, to in self.links[name] if to == other].index(link)
-        return f"{name}.{other}" + f".{place + 1}" * (place > 0)
+        return f"{name}.{other}" + (f".{place + 1}" if place > 0 else "")
 
     def interface(self, name: str, link: int) -> str:
         label = "to-" + self.label(name, link).partition(".")[2]
@@ -98,7 +98,7 @@ class NetEnds:
     def at_end(self, name: str, link: int) -> Addresses:
         return end_addresses(*self.place_of_end(name, link))
 
-    def of_link(self, name: str, link: int) -> str:
+    def link_local(self, name: str, link: int) -> str:
         """Returns the link-local address of an end."""
         return f"fe80::{self.place_of_end(name, link)[1] + 1:x}"
 
@@ -106,7 +106,7 @@ class NetEnds:
         """Returns the next router's IPv4 and IPv6 addresses if the route begins at a switch."""
         if hop.host == to or (hop.host_link, hop.host) not in self.ports:
             return None, None
-        return self.at_end(hop.host, hop.host_link).four, self.of_link(hop.host, hop.host_link)
+        return self.at_end(hop.host, hop.host_link).four, self.link_local(hop.host, hop.host_link)
 
     def all_of(self, name: str) -> list[str]:
         return [*self.own[name], *(text for link, _ in self.links[name] for text in self.at_end(name, link))]
@@ -179,11 +179,12 @@ class NetRooms:
 
     def add_end(self, name: str, link: int, mtu: int) -> int:
         """Adds a link's end to the current namespace; returns its descriptor."""
-        interface, is_port = self.ends.interface(name, link), (link, name) in self.ends.ports
+        interface = self.ends.interface(name, link)
+        is_port = (link, name) in self.ends.ports
         descriptor = add_tun(
             *self.ends.at_end(name, link), self.ends.net.links[link].mtu or mtu, interface, mac=mac_of(link) if is_port else b""
         )
-        in_ipv6(lambda: add_address(interface, self.ends.of_link(name, link), 64))
+        in_ipv6(lambda: add_address(interface, self.ends.link_local(name, link), 64))
         if is_port:  # neighbours ask for an address of IPv6 at the interface that has it
             in_ipv6(lambda: add_address(interface, self.ends.own[name].six, 128))
         return descriptor
@@ -205,7 +206,8 @@ class NetRooms:
         own, numbers = self.ends.own[name], dict[int, int]()
         for link, _ in self.ends.links[name]:
             numbers[link] = index_of(self.ends.interface(name, link))
-        is_plain, alike = self.ends.net.has_routes, dict[tuple[int, tuple[Optional[str], Optional[str]]], list[int]]()
+        is_plain = self.ends.net.has_routes
+        alike = dict[tuple[int, tuple[Optional[str], Optional[str]]], list[int]]()
         metric = None if is_plain else WORST
         for to, hop in first_hops(name, self.ends.net, self.ends.links).items():
             if to in self.ends.own and (is_plain or to == hop.host):
@@ -244,7 +246,8 @@ class NetRooms:
             if name != by and hop is not None:
                 # A gateway that is a neighbour of Ethernet is named.
                 four, six = self.ends.gateways("", hop)
-                own, interface = self.ends.own[name], self.ends.interface(name, hop.link)
+                own = self.ends.own[name]
+                interface = self.ends.interface(name, hop.link)
                 add_interface_route("0.0.0.0", interface, own.four, 0, gateway=four)
                 if ipv6:
                     in_ipv6(partial(add_interface_route, "::", interface, own.six, 0, gateway=six))

@@ -52,7 +52,7 @@ def act_records(acts: Sequence[TimedEvent], result: Sequence[Done], main: Option
 
 def acts_text(acts: Sequence[TimedEvent]) -> str:
     lines = [f"`{one}`" for one in acts[:MOST_SHOWN]]
-    return ", ".join(lines) + f" and {len(acts) - MOST_SHOWN} more" * (len(acts) > MOST_SHOWN)
+    return ", ".join(lines) + (f" and {len(acts) - MOST_SHOWN} more" if len(acts) > MOST_SHOWN else "")
 
 
 def of_plan(acts: Sequence[TimedEvent], main: Optional[int], end: int) -> Iterator[str]:
@@ -128,7 +128,9 @@ def of_nothing(order: NetOrder, acts: Sequence[Done]) -> Iterator[tuple[str, boo
 def report_net(order: NetOrder, ran: NetRan, waits: Optional[Waits], tell: Callable[[str], None] = say) -> int:
     """Reports the run, and writes the file that --json names; returns the status, or that for a void run. In simulated time nothing
     waits."""
-    net, counts, names = order.net, ran.counts, order.net.ways()
+    net = order.net
+    counts = ran.counts
+    names = order.net.ways()
     others = {name: one for name, one in ran.endings.items() if name != net.main}
 
     def of_programs(limit: float) -> list[str]:
@@ -141,7 +143,7 @@ def report_net(order: NetOrder, ran: NetRan, waits: Optional[Waits], tell: Calla
         [*moments, *plan.moments], plan.chosen, idle, plan.rules, order.made.unruled(), [*of_nothing(order, ran.acts)]
     )
     faults, warnings = verdict(counts, ran.drops, order.plan, order.limit, of_programs, names, awaited, waits is not None)
-    faults = [ran.missing] * bool(ran.missing) + faults
+    faults = ([ran.missing] if ran.missing else []) + faults
     lines = [
         *net_lines(net, counts, ran.drops),
         *of_unforwarded(ran.unforwarded),

@@ -5,8 +5,9 @@ from __future__ import annotations
 import os
 from typing import Mapping, NamedTuple, Optional
 
-from hinge.events.kinds import Act, Cut, Heal
-from hinge.net.acts import line_of
+from hinge.events.forms import ACTS
+from hinge.events.kinds import PlannedAct, Cut, Heal
+from hinge.net.acts import act_line
 from hinge.net.clocks import IN_REAL_TIME
 from hinge.net.description import Description, read_description
 from hinge.net.disks import refuse_disks
@@ -18,7 +19,6 @@ from hinge.run.processes import Mask
 from hinge.run.settings import NetOptions
 from hinge.run.words import Wrong, duration
 
-BY_LINKS = ("stop", "cont", "kill")  # the acts that are a write each, on hosts with cgroups
 Linked = Mapping[str, "list[int]"]  # the descriptors of a host's cgroup, whose acts are the links'
 
 
@@ -46,7 +46,10 @@ class LinksPlan:
     """The text that the host of all links reads."""
 
     def __init__(self, order: NetOrder, ends: NetEnds, linked: Linked) -> None:
-        self.order, self.net, self.ends, self.linked = order, order.net, ends, linked
+        self.order = order
+        self.net = order.net
+        self.ends = ends
+        self.linked = linked
 
     def text(self) -> str:
         """Returns the plan, with the lines for an audit along the paths after the line that opens the transcript."""
@@ -58,20 +61,20 @@ class LinksPlan:
         hosts = [f"remark host,{name},{','.join(self.ends.all_of(name))}" for name in self.ends.own]
         pipes = [line for number, link in enumerate(self.net.links) for way in (0, 1) for line in self.pipes_of(number, way)]
         hosts += [f"remark switch,{name}" for name in into]
-        outside = [f"remark outside,{self.order.outside}"] * bool(self.order.outside)
+        outside = [f"remark outside,{self.order.outside}"] if self.order.outside else []
         draw_lines = [f"remark drawn,{line}" for line in self.order.made.drawn]
-        remarks = [*hosts, *outside, *["remark routes,none"] * (not self.net.has_routes), *pipes, *draw_lines]
+        remarks = [*hosts, *outside, *(["remark routes,none"] if not self.net.has_routes else []), *pipes, *draw_lines]
         return "\n".join(
             [first, "remark format,3", *remarks, "contents", rest.rstrip("\n"), *self.act_remarks(), *self.act_lines(), ""]
         )
 
-    def is_of_links(self, act: Act) -> bool:
-        return act.host in self.linked and act.word in BY_LINKS
+    def is_of_links(self, act: PlannedAct) -> bool:
+        return act.host in self.linked and ACTS[act.word].is_write
 
     def act_lines(self) -> list[str]:
         """Returns the hosts and their acts that the links carry out, in the file's order, after all events of links."""
         lines = [
-            f"{'main ' * act.moment.of_main}at {act.moment.ns} {line_of(act)}"
+            f"{'main ' * act.moment.of_main}at {act.moment.ns} {act_line(act)}"
             for act in self.order.made.acts
             if self.is_of_links(act)
         ]
@@ -99,8 +102,8 @@ class LinksPlan:
         return [
             f"remark pipe,{pipe},{start},{between}",
             *(f"remark pipe,{other},{between},{end}" for other in second),
-            *[f"remark copies,{pipe}"] * (pipe - 1 in plan.copied),
-            *[f"remark model,{pipe},{model}"] * bool(model),
+            *([f"remark copies,{pipe}"] if pipe - 1 in plan.copied else []),
+            *([f"remark model,{pipe},{model}"] if model else []),
         ]
 
 
@@ -151,7 +154,9 @@ def net_order(options: NetOptions, net: Description, mask: Mask, simulated: bool
     if not simulated and any(act.word == "skew" for act in net_plan.acts):
         raise Wrong(f"{options.file}: skew: {IN_REAL_TIME}")
     refuse_disks(options.file, net.hosts.values(), simulated)
-    plan, path = net_plan.plan, options.transcript and os.path.abspath(options.transcript)
-    text, is_drawn = plan.text(seed, path, options.realtime, MOST, simulated), draws(plan) or bool(net_plan.drawn)
+    plan = net_plan.plan
+    path = options.transcript and os.path.abspath(options.transcript)
+    text = plan.text(seed, path, options.realtime, MOST, simulated)
+    is_drawn = draws(plan) or bool(net_plan.drawn)
     limit, wait = limit_of(options.late), end_wait_of(options)
     return NetOrder(options, net, text, seed, is_drawn, limit, wait, net_plan, outside_of(options, net), mask)

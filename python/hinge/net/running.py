@@ -48,7 +48,7 @@ class CommandFailed(CalledProcessError):
 
     def __str__(self) -> str:
         output = "\n".join(text.rstrip() for text in (self.stdout, self.stderr) if isinstance(text, str) and text.strip())
-        return lines(f"{self.cmd}: status {self.returncode}" + f"\n{output}" * bool(output))
+        return lines(f"{self.cmd}: status {self.returncode}" + (f"\n{output}" if output else ""))
 
 
 class Obeyed(NamedTuple):
@@ -58,7 +58,7 @@ class Obeyed(NamedTuple):
     line: str
 
 
-def spelled(*words: str, lasting: Optional[Time] = None) -> str:
+def words_with_length(*words: str, lasting: Optional[Time] = None) -> str:
     """Returns words in a line, followed by a length if there is one."""
     return " ".join(word for word in (*words, "" if lasting is None else spelled_time(lasting)) if word)
 
@@ -83,7 +83,10 @@ class Net(Described):
         """
         self.temporary = Folder() if folder is None else None
         super().__init__(Path(self.temporary.path if self.temporary else str(folder)).absolute(), link, back)
-        self.seed, self.mtu, self.late, self.outside = seed, mtu, late, outside
+        self.seed = seed
+        self.mtu = mtu
+        self.late = late
+        self.outside = outside
         self.obeyed: list[Obeyed] = []
         self.description: Optional[Description] = None
         self.process: Optional["Process[bytes]"] = None
@@ -140,15 +143,15 @@ class Net(Described):
         """Makes the links of a host, or those to some hosts, lose all packets, for a length or until a heal; returns the applied
         lines. The way "up" contains the packets that the host sends, and "down" the packets that the host receives; a port such as
         "tcp port 7001" restricts the cut to its packets."""
-        return self.obey(spelled("cut", host, *["from"] * bool(off), *off, way, port, lasting=lasting), at=at)
+        return self.obey(words_with_length("cut", host, *(["from"] if off else []), *off, way, port, lasting=lasting), at=at)
 
     def heal(self, host: str, *, off: Sequence[str] = (), way: str = "", port: str = "", at: Optional[Time] = None) -> list[Obeyed]:
         """Ends a cut of the same links; returns the applied lines."""
-        return self.obey(spelled("heal", host, *["from"] * bool(off), *off, way, port), at=at)
+        return self.obey(words_with_length("heal", host, *(["from"] if off else []), *off, way, port), at=at)
 
     def act(self, word: str, host: str, lasting: Optional[Time], at: Optional[Time]) -> list[Obeyed]:
         """Returns the lines applied for a word about a host."""
-        return self.obey(spelled(word, host, lasting=lasting), at=at)
+        return self.obey(words_with_length(word, host, lasting=lasting), at=at)
 
     def kill(self, host: str, lasting: Optional[Time] = None, *, at: Optional[Time] = None) -> list[Obeyed]:
         """Kills all processes on a host; returns the applied acts. The command starts again after this time, or by `restart`."""

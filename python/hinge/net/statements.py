@@ -8,12 +8,11 @@ from sys import intern
 from typing import Iterable, Iterator, Sequence
 
 from hinge.command import CONFIGURATION
+from hinge.events.forms import line_meant
 from hinge.run.words import LONGEST, Wrong, bare, first_word, length_of, placed, read_lines
-from hingetulip_words.advice import line_meant
 from hingetulip_words.presets import preset
 
-
-NO_HOST = "no host of this net"
+UNKNOWN_HOST = "no host of this net"
 
 
 class Unobeyed(Wrong):
@@ -40,7 +39,8 @@ class Statement:
         return Wrong(f"{self.place}: {word!r}: {why}" if word else f"{self.place}: {why}")
 
     def unknown(self, word: str, items: Iterable[str], what: str, otherwise: str = "") -> Wrong:
-        near, line = difflib.get_close_matches(word, items, 1) if not word[:1].isdigit() else [], self.meant()
+        near = difflib.get_close_matches(word, items, 1) if not word[:1].isdigit() else []
+        line = self.meant()
         right = f"write {line}" if line else f"did you mean {near[0]!r}?" if near else otherwise
         return self.wrong(word, f"{what}; {right}" if right else what)
 
@@ -96,8 +96,6 @@ class Statement:
 
 
 TAKES_A_COMMAND = ("host", "main", "router")
-
-
 OFTEN = ("link", "nemesis", "host", "main", "router", "switch")  # a second line is another one, or is refused by its name
 SUBJECTS = {"mtu": -1, "trace": -1, "wait": 4, "disk": 3, "faults": 1, "routes": 1}  # the words that a second line has too
 

@@ -47,7 +47,7 @@ class Hops:
         return self.explainer(self.files[file]).paragraph(number - self.counts[file])
 
     def from_here(self, place: int) -> Iterator[str]:
-        """A line for each link, and for each host between two, in their order; a switch hands some on over several links."""
+        """Yields a line for each link and for each host between two links, in order. A switch forwards some packets over several links."""
         waiting = [place]
         while waiting:
             at = waiting.pop()

@@ -15,7 +15,7 @@ from hinge.paths.folder import HISTORY, NET, session_of, told_drops
 from hinge.paths.hops import Hops
 from hinge.paths.matching import Matched, match
 from hinge.paths.net_graph import as_link
-from hinge.paths.net_picture import net_drawing
+from hinge.paths.net_picture import NetPicture
 from hinge.paths.passages import read_transcript
 from hinge.paths.report import hosts_of, of_faults, of_paths, of_ways, paths, summary, ways
 from hinge.paths.timeline import Looked, Timeline, chart, name_of_way, timeline, told_changes
@@ -35,14 +35,9 @@ HEAD = 1 << 20  # bytes in which the seed is
 
 def refuse_others(options: LookOptions, folder: str) -> None:
     """Fault: an option applies only to single links."""
-    for name, is_given in (
-        ("--by", options.by != "tuple"),
-        ("--csv", options.csv),
-        ("--config", options.config is not None),
-        ("--capture", options.capture is not None),
-        *((f"-o FILE{one.value}", bool(options.files(one))) for one in CAPTURES),
-    ):
-        if is_given:
+    of_links = {"--by": options.by != "tuple", "--csv": options.csv, "--config": options.config, "--capture": options.capture}
+    for name, value in (of_links | {f"-o FILE{one.value}": options.files(one) for one in CAPTURES}).items():
+        if value:
             history = os.path.join(folder, HISTORY)
             raise Fault(f"{folder}: {name} is of one history, as {history}, and not of a net's folder", ROWS)
 
@@ -109,7 +104,8 @@ def look_record(matching: Matched, line: Timeline, history: str, seed: str | Non
 
 def title_of(view: Looked) -> str:
     """Returns each link's words like in a net's file, followed by a slash and the way back if that differs."""
-    topology, links = view.found.passages.topology, dict[tuple[str, str], list[str]]()
+    topology = view.found.passages.topology
+    links = dict[tuple[str, str], list[str]]()
     for pipe, words in sorted(view.words.items()):
         ends = [topology.hosts[host] for host in topology.pipes.get(pipe, ())]
         if len(ends) == 2:
@@ -122,7 +118,7 @@ def draw_net(view: Looked, options: LookOptions, files: list[str], seed: Optiona
     lines = [f"{name_of_way(view.found, pipe)}: {as_link(words)}" for pipe, words in sorted(view.words.items())]
     title = options.title or title_of(view)
     for name in options.o:
-        drawing = net_drawing(view, options.step, provenance(lines, files, seed))
+        drawing = NetPicture(view, options.step).drawing(provenance(lines, files, seed))
         with written(name) as place:
             if format_of(name) is Format.PAGE:
                 hops, numbers = Hops(folder), view.found.passages.number

@@ -7,8 +7,7 @@ from collections import Counter, deque
 from dataclasses import dataclass
 
 from hinge.lazy import Integers, Mask, np
-from hinge.paths.passages import NO_HOST, Passages
-from hinge.paths.scopes import Scope
+from hinge.paths.passages import NO_HOST, Passages, Scope
 
 NONE = -1
 MIX = 0x9E3779B97F4A7C15  # an odd number, by which products differ in all bits
@@ -89,7 +88,8 @@ class Ends:
 def is_new(passages: Passages, choice: Mask) -> Mask:
     """Returns the chosen passages whose packets their hosts hadn't received."""
     receipts = np.flatnonzero(passages.handed >= 0)
-    both, packet = np.concatenate((receipts, np.flatnonzero(choice))), np.flatnonzero(choice)
+    both = np.concatenate((receipts, np.flatnonzero(choice)))
+    packet = np.flatnonzero(choice)
     host = np.concatenate((passages.end[receipts], passages.start[packet]))
     content = np.concatenate((passages.left[receipts], passages.content[packet]))
     key = numbered(host, *passages.flow[:, both], passages.length[both], content)
@@ -101,7 +101,8 @@ def is_new(passages: Passages, choice: Mask) -> Mask:
 def ends_of(passages: Passages) -> Ends:
     """Returns the ends of passages. A switch, like a way's jitter, forwards all packets, whatever their addresses and time to live.
     Hosts at a switch's ports may have configured their own addresses, for example by DHCP."""
-    topology, switches = passages.topology, sorted(passages.topology.switches)
+    topology = passages.topology
+    switches = sorted(passages.topology.switches)
     goes_on, came_so = (np.isin(of, [*switches, *topology.middles()]) for of in (passages.end, passages.start))
     source, destination = (topology.scopes_of(passages.flow[at]) for at in (0, 1))
     sender, receiver = (topology.hosts_of(passages.flow[at]) for at in (0, 1))
@@ -120,13 +121,15 @@ def ends_of(passages: Passages) -> Ends:
 
 def handings(passages: Passages, ends: Ends) -> Handings:
     """Returns the forwarded packets. A packet that may leave on several links counts once for each."""
-    receipts, packet = np.flatnonzero((passages.handed >= 0) & ~ends.ends), np.flatnonzero(~ends.is_own)
+    receipts = np.flatnonzero((passages.handed >= 0) & ~ends.ends)
+    packet = np.flatnonzero(~ends.is_own)
     for_many, plain = receipts[ends.got_for_many[receipts]], receipts[~ends.got_for_many[receipts]]
     by_way = {pipe: for_many[passages.end[for_many] == start] for pipe, (start, _) in passages.topology.pipes.items()}
     receipts = np.concatenate((plain, *by_way.values()))
     ways = [np.zeros(len(plain), np.int64), *(np.full(len(rows), pipe) for pipe, rows in by_way.items())]
     way = np.concatenate((*ways, np.where(ends.sent_for_many[packet], passages.pipe[packet], 0)))
-    both, host = np.concatenate((receipts, packet)), np.concatenate((passages.end[receipts], passages.start[packet]))
+    both = np.concatenate((receipts, packet))
+    host = np.concatenate((passages.end[receipts], passages.start[packet]))
     content = np.concatenate((passages.left[receipts], passages.content[packet]))
     key = numbered(host, way, *passages.flow[:, both], passages.length[both], content)
     return Handings(receipts, packet, key[: len(receipts)], key[len(receipts) :])
@@ -137,9 +140,11 @@ def matched_by_places(passages: Passages, handings_on: Handings) -> tuple[Intege
     keys for which that fails."""
     got_order = in_order_of(handings_on.got_key, passages.handed[handings_on.got])
     sent_order = in_order_of(handings_on.sent_key, passages.submitted[handings_on.sent])
-    got_place, sent_place = place_in_group(handings_on.got_key, got_order), place_in_group(handings_on.sent_key, sent_order)
+    got_place = place_in_group(handings_on.got_key, got_order)
+    sent_place = place_in_group(handings_on.sent_key, sent_order)
     many = int(max(got_place.max(initial=0), sent_place.max(initial=0))) + 1
-    got_pair, sent_pair = handings_on.got_key * many + got_place, handings_on.sent_key * many + sent_place
+    got_pair = handings_on.got_key * many + got_place
+    sent_pair = handings_on.sent_key * many + sent_place
     by_pair = np.argsort(got_pair)
     at = np.minimum(np.searchsorted(got_pair[by_pair], sent_pair), max(len(by_pair) - 1, 0))
     if not len(by_pair):
@@ -156,7 +161,8 @@ def matched_one_by_one(
     """Repairs the matches for these keys: a sent packet continues the first received packet without a continuation. Returns the
     places in `sent` of packets without a match, invented or repeated, and the earliest match that each may have, since equal
     packets can't be told apart."""
-    receipts, packet = np.flatnonzero(np.isin(handings_on.got_key, keys)), np.flatnonzero(np.isin(handings_on.sent_key, keys))
+    receipts = np.flatnonzero(np.isin(handings_on.got_key, keys))
+    packet = np.flatnonzero(np.isin(handings_on.sent_key, keys))
     moments = [(int(passages.handed[handings_on.got[at]]), int(handings_on.got_key[at]), at, True) for at in receipts.tolist()]
     moments += [(int(passages.submitted[handings_on.sent[at]]), int(handings_on.sent_key[at]), at, False) for at in packet.tolist()]
     waiting: dict[int, deque[int]] = {key: deque() for key in keys.tolist()}
@@ -252,7 +258,8 @@ def match(passages: Passages, end: int, table: dict[int, int]) -> Matched:
     again = again[~np.isin(passages.pipe[again], sorted(topology.copied))]
     hand_over = passages.handed >= 0
     back = np.flatnonzero(hand_over & ends.is_back)
-    late, unlawful = out_of_order(passages, result.sent, before, earliest), back[:0] if topology.has_daemons else back
+    late = out_of_order(passages, result.sent, before, earliest)
+    unlawful = back[:0] if topology.has_daemons else back
     faults = dict(zip(KINDS, (result.sent[nowhere], again, early, late, losses[excess[hosts]], unlawful)))
     is_last = ends.ends | ends.may_end & ~is_handed_on
     is_expired = hand_over & ends.ends & ~ends.is_there & ~ends.is_back & ~ends.got_for_many

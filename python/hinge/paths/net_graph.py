@@ -14,7 +14,7 @@ from hinge.paths.report import ways
 from hinge.paths.timeline import Timeline
 from hinge.pictures.drawing import DASHED, SOLID, Edge, Graph, Node, Panel
 from hingetulip_words.foreign import in_units
-from hingetulip_words.values import plain
+from hingetulip_words.values import decimal
 
 BANDWIDTH, DELAY = re.compile(r"\bbw (\d{1,18})bit/s"), re.compile(r"\bdelay (\d+)")
 LOSS = re.compile(r"\bplr (\d{0,18}\.?\d{1,18})(?!\S)")  # of a number: a history may have anything
@@ -28,7 +28,8 @@ def places_of(count: int, links: list[tuple[int, int]]) -> Reals:
     """Returns the hosts' places: hosts repel each other and links attract, like in Fruchterman and Reingold (1991)."""
     turn = 2 * np.pi * np.arange(count) / max(count, 1)
     places = np.column_stack((np.cos(turn), np.sin(turn)))
-    ideal, pulls = np.sqrt(4 / max(count, 1)), np.zeros((count, count))
+    ideal = np.sqrt(4 / max(count, 1))
+    pulls = np.zeros((count, count))
     for one, other in links:
         pulls[one, other] = pulls[other, one] = 1
     for part in range(ROUNDS):
@@ -45,7 +46,7 @@ def places_of(count: int, links: list[tuple[int, int]]) -> Reals:
 def as_link(words: str) -> str:
     """Returns a configuration's words in a link's format, such as 12Mbit/s 10ms loss 1%."""
     words = BANDWIDTH.sub(lambda result: in_units(Fraction(result[1])), words)
-    words = LOSS.sub(lambda result: f"loss {plain(as_typed(Fraction(result[1])) * 100)}%", words)
+    words = LOSS.sub(lambda result: f"loss {decimal(as_typed(Fraction(result[1])) * 100)}%", words)
     return DELAY.sub(r"\1ms", words)
 
 
@@ -54,11 +55,6 @@ def as_typed(kept: Fraction) -> Fraction:
     return next(
         (one for one in (round(kept, digits) for digits in range(1, 12)) if int(one * LOSS_PARTS) == int(kept * LOSS_PARTS)), kept
     )
-
-
-def host_of(name: str) -> str:
-    """Returns the host with this name, or the one at which a way's jitter begins."""
-    return name.partition(BETWEEN)[0]
 
 
 class NetGraph:
@@ -70,7 +66,7 @@ class NetGraph:
         self.switches = {topology.hosts[number] for number in topology.switches}
         self.links: dict[tuple[str, str], list[int]] = {}  # the pipes of their ways
         for pipe, numbers in topology.pipes.items():
-            one, other = sorted(host_of(topology.hosts[number]) for number in numbers)
+            one, other = sorted(topology.hosts[number].partition(BETWEEN)[0] for number in numbers)
             if one != other:
                 self.links.setdefault((one, other), []).append(pipe)
         self.hosts = sorted({name for ends in self.links for name in ends})
@@ -83,7 +79,7 @@ class NetGraph:
         words = dict.fromkeys(as_link(self.words.get(pipe, "")) for pipe in pipes)
         drops = sum(way.lost + way.full for pipe in pipes if (way := self.figures.get(pipe)))
         rates = " and ".join(f"{rate:.3g}" for rate in self.rates(pipes))
-        return "\n".join([*filter(None, words), f"{rates} Mbit/s" + f", {drops:,} dropped" * bool(drops)])
+        return "\n".join([*filter(None, words), f"{rates} Mbit/s" + (f", {drops:,} dropped" if drops else "")])
 
     def edge(self, ends: tuple[str, str], most: float, has_label: bool) -> Edge:
         pipes = self.links[ends]
@@ -97,7 +93,8 @@ class NetGraph:
         """Returns the panel; None for a net with too many hosts, or with a single link."""
         if not 2 < len(self.hosts) <= MOST_HOSTS:
             return None
-        most, has_labels = max(sum(self.rates(pipes)) for pipes in self.links.values()), len(self.links) <= MOST_WORDS
+        most = max(sum(self.rates(pipes)) for pipes in self.links.values())
+        has_labels = len(self.links) <= MOST_WORDS
         edges = [self.edge(ends, most, has_labels) for ends in self.links]
         places = places_of(len(self.hosts), [(edge.begin, edge.end) for edge in edges])
         nodes = [Node(name, x, y, name in self.switches) for name, (x, y) in zip(self.hosts, places.tolist())]

@@ -28,7 +28,10 @@ class NetPicture:
 
     def __init__(self, view: Looked, step_ms: Optional[int]) -> None:
         result, line = view.found, view.timeline
-        self.looked, self.found, self.passages, self.timeline = view, result, result.passages, line
+        self.looked = view
+        self.found = result
+        self.passages = result.passages
+        self.timeline = line
         busiest = max((way.packets for way in ways(result)), default=1)
         longer = min(rounded_up(PACKETS_A_STEP * line.span // busiest), rounded_down(line.span // FEWEST_STEPS))
         self.step = step_ms * NS_PER_MS if step_ms else max(round_step(line.span), longer)
@@ -49,8 +52,8 @@ class NetPicture:
                 above += bool(len(rates))
                 continue
             items.append(Line(way.name, moments, rates, color, number, width=1, dash=DOTTED, is_behind=True))
-        notes = [f"{self.left_out} other ways, which carried fewer packets, aren't drawn"] * bool(self.left_out)
-        notes += ["dotted: a way's capacity"] * bool(items) + [f"{above} capacities are above this panel"] * bool(above)
+        notes = [f"{self.left_out} other ways, which carried fewer packets, aren't drawn"] if self.left_out else []
+        notes += (["dotted: a way's capacity"] if items else []) + ([f"{above} capacities are above this panel"] if above else [])
         items += [
             Line(way.name, self.edges, np.append(rates, rates[-1]), color, number)
             for number, ((way, color), rates) in enumerate(zip(self.ways, load))
@@ -63,11 +66,8 @@ class NetPicture:
             out = np.flatnonzero((passages.pipe == way.pipe) & (passages.event == OUT))
             places = out[spread(np.arange(len(out)), MOST_DOTS)]
             if len(places):
-                items.append(
-                    Points(
-                        way.name, places, passages.came[places] / SECOND, (passages.due - passages.came)[places] / MS, color, number
-                    )
-                )
+                x, y = passages.came[places] / SECOND, (passages.due - passages.came)[places] / MS
+                items.append(Points(way.name, places, x, y, color, number))
         return Panel("Delay on each way", "came at, s", "ms", items) if items else None
 
     def cuts(self) -> Optional[Panel]:
@@ -79,9 +79,8 @@ class NetPicture:
             x = np.array([moment for begin, end in times for moment in (begin, end, end)]) / SECOND
             y = np.array([level for _ in times for level in (place, place, np.nan)], float)
             color = next((color for way, color in self.ways if way.pipe == pipe), RESTS[place % len(RESTS)])
-            items.append(
-                Line(f"{place}: {name}, {sum(end - begin for begin, end in times) / SECOND:.3g} s", x, y, color, width=CUT_WIDTH)
-            )
+            length = sum(end - begin for begin, end in times) / SECOND
+            items.append(Line(f"{place}: {name}, {length:.3g} s", x, y, color, width=CUT_WIDTH))
         return Panel("Ways that lose all packets", "s", "", items, most=len(items) + 1, is_whole=True) if items else None
 
     def drops(self) -> Optional[Panel]:
@@ -111,15 +110,15 @@ class NetPicture:
         path = next(iter(self.over_links()), None)
         if path is None:
             return None
-        hosts, of = hosts_of(self.found, path), np.minimum(path.sent // self.step, self.count - 1)
+        hosts = hosts_of(self.found, path)
+        of = np.minimum(path.sent // self.step, self.count - 1)
         counts = np.bincount(of, minlength=self.count)
         colors = {way.pipe: color for way, color in self.ways}
         items: list[Item] = []
         for place, column in enumerate(path.links.T):
             hops = [(f"in {hosts[place]}", path.hosts[:, place - 1], PIPES[0][0])] if place else []
-            hops.append(
-                (f"from {hosts[place]} to {hosts[place + 1]}", column, colors.get(path.pipes[place], RESTS[place % len(RESTS)]))
-            )
+            color = colors.get(path.pipes[place], RESTS[place % len(RESTS)])
+            hops.append((f"from {hosts[place]} to {hosts[place + 1]}", column, color))
             for name, times, color in hops:
                 mean = np.bincount(of, weights=times, minlength=self.count) / np.maximum(counts, 1) / MS
                 items.append(Bars(name, self.edges[:-1], self.step / SECOND, mean, color))
@@ -131,8 +130,11 @@ class NetPicture:
         for kind, dash in (("late", SOLID), ("unread", DOTTED)):
             columns = [way[kind] for way in self.looked.lateness.values()]
             if columns:
-                moments, most = columns[0][0], np.max([values for _, values in columns], axis=0)
-                x, y, name = np.append(0, moments), np.append(most, most[-1:]), f"{kind}, at most {most.max(initial=0):,.4g} ms"
+                moments = columns[0][0]
+                most = np.max([values for _, values in columns], axis=0)
+                x = np.append(0, moments)
+                y = np.append(most, most[-1:])
+                name = f"{kind}, at most {most.max(initial=0):,.4g} ms"
                 items.append(Line(name, x, y, PIPES[0][0], width=1, dash=dash))
         return late_panel("The links' lateness, the most of each second", items)
 
@@ -145,10 +147,5 @@ class NetPicture:
             for way, color in self.ways
         ]
         shades = dict.fromkeys((begin / SECOND, end / SECOND) for times in self.timeline.cuts.values() for begin, end in times)
-        return Drawing(
-            panels, keys, "", self.timeline.span / SECOND, below, "Ways, those with most packets first", shades=tuple(shades)
-        )
-
-
-def net_drawing(view: Looked, step_ms: Optional[int], below: list[str]) -> Drawing:
-    return NetPicture(view, step_ms).drawing(below)
+        heading = "Ways, those with most packets first"
+        return Drawing(panels, keys, "", self.timeline.span / SECOND, below, heading, shades=tuple(shades))

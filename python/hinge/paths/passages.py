@@ -2,24 +2,46 @@
 
 from __future__ import annotations
 
+import enum
 import ipaddress
 import re
 from dataclasses import dataclass, field
-from typing import Iterable, Iterator, NamedTuple
+from typing import Iterable, Iterator, NamedTuple, Union
 
 from hinge.border.files import untrusted
 from hinge.captures.addresses import address_of_six
 from hinge.command import ROWS, Fault
 from hinge.lazy import Integers, np
-from hinge.paths.scopes import scopes_of
 from hinge.replays.columns import NET_COLUMNS, OUT, Told, read_told
 from hinge.replays.remarks import Lateness, addresses_in, lateness_in
 
+Address = Union[ipaddress.IPv4Address, ipaddress.IPv6Address]
+LOCAL_GROUPS = ipaddress.IPv4Network("224.0.0.0/24")
+EVERYBODY = ipaddress.IPv4Address("255.255.255.255")
+LINK_SCOPE = 2  # of groups of IPv6; those of an interface have 1
+LAST_OF_NETWORK = 255  # links have networks of 24 bits
 OUTAGE_PROTOCOL = 255  # of a packet that nobody sent
 QUEUE_OF_PIPE = re.compile(r"queue (\d{1,18}) config .*?\bpipe (\d{1,18})", re.ASCII)
 NO_HOST = -1
 LABEL = re.compile(r"[A-Za-z0-9][A-Za-z0-9._~-]{0,199}", re.ASCII)  # of a host, and of where the jitter of a way begins
 BETWEEN = "~"  # in the name of where the jitter of a way begins
+
+
+class Scope(enum.IntEnum):
+    """The scope of an address. Those of no host are a group, a broadcast, or an address of one link."""
+
+    HOST = 0  # one host has it
+    LINK = 1  # it ends at the next host
+    GROUP = 2  # it may end at each host, and may go on by each other link
+
+
+def scope_of(address: Address) -> Scope:
+    is_six = isinstance(address, ipaddress.IPv6Address)
+    if address.is_multicast:
+        is_local = address.packed[1] & 15 <= LINK_SCOPE if is_six else address in LOCAL_GROUPS
+        return Scope.LINK if is_local else Scope.GROUP
+    is_of_link = address.is_unspecified or address == EVERYBODY or is_six and address.is_link_local
+    return Scope.LINK if is_of_link else Scope.HOST
 
 
 @dataclass
@@ -39,9 +61,8 @@ class Topology:
     outside: int = NO_HOST  # the host behind which all other addresses are
     has_daemons: bool = False  # which change routes
     stand_ins: dict[int, str] = field(default_factory=dict)  # the addresses of IPv6 that they stand for
-    rejections: dict[tuple[int, int, int], list[int]] = field(
-        default_factory=dict
-    )  # by hosts and addresses: when one told so, in ns
+    # by hosts and addresses: when one told so, in ns
+    rejections: dict[tuple[int, int, int], list[int]] = field(default_factory=dict)
 
     def number(self, name: str) -> int:
         if name not in self.numbers:
@@ -57,30 +78,26 @@ class Topology:
         _, kind, *words = text.split(",")
         if kind == "switch":
             self.switches.add(self.number(words[0]))
-            return
-        if kind == "outside":
+        elif kind == "outside":
             self.outside = self.number(words[0])
-            return
-        if kind == "routes":
+        elif kind == "routes":
             self.has_daemons = True
-            return
-        if kind == "rejected":
+        elif kind == "rejected":
             moment, pipe, teller, *ends = map(int, words)
             host = self.host_of.get(teller, NO_HOST)
             if pipe in self.pipes and self.pipes[pipe][0] == host:  # and not on a later link
                 self.rejections.setdefault((host, ends[0], ends[1]), []).append(moment)
-            return
-        if kind == "copies":
+        elif kind == "copies":
             self.copied.add(int(words[0]))
-            return
-        if kind == "model":
+        elif kind == "model":
             self.models[int(words[0])] = ",".join(words[1:])
-            return
-        if kind == "pipe":
+        elif kind == "pipe":
             self.add_pipe(int(words[0]), (self.number(words[1]), self.number(words[2])))
-            return
-        host = self.number(words[0])
-        for text in words[1:]:
+        else:
+            self.add_host(self.number(words[0]), words[1:])
+
+    def add_host(self, host: int, addresses: list[str]) -> None:
+        for text in addresses:
             if ":" in text:
                 self.six[address_of_six(text)] = host
             else:
@@ -114,18 +131,25 @@ class Topology:
                 self.host_of[stand_in] = self.six[address]
 
     def scopes_of(self, addresses: Integers) -> Integers:
-        return scopes_of(addresses, set(self.host_of), self.stand_ins)
+        """Returns each address's scope as a number; for IPv6, the address is a stand-in. Hosts' networks have broadcasts."""
+        six, of_hosts = self.stand_ins, set(self.host_of)
+        broadcasts = {address | LAST_OF_NETWORK for address in of_hosts if address not in six} - of_hosts
+        used, place = np.unique(addresses, return_inverse=True)
+        own: list[Address] = [
+            ipaddress.IPv6Address(six[one]) if one in six else ipaddress.IPv4Address(one) for one in used.tolist()
+        ]
+        scopes = [Scope.LINK if one in broadcasts else scope_of(address) for one, address in zip(used.tolist(), own)]
+        places: Integers = np.array(scopes, np.int64)[place.ravel()]
+        return places
 
     def hosts_of(self, addresses: Integers) -> Integers:
         """Returns the host of each address; for other addresses, the host that leads outside, or NO_HOST."""
         addresses_of_hosts = np.array(sorted(self.host_of), np.int64)
         hosts = np.array([self.host_of[address] for address in addresses_of_hosts.tolist()], np.int64)
         at = np.minimum(np.searchsorted(addresses_of_hosts, addresses), max(len(addresses_of_hosts) - 1, 0))
-        return (
-            np.where(addresses_of_hosts[at] == addresses, hosts[at], self.outside)
-            if len(addresses_of_hosts)
-            else np.full(len(addresses), self.outside)
-        )
+        if not len(addresses_of_hosts):
+            return np.full(len(addresses), self.outside)
+        return np.where(addresses_of_hosts[at] == addresses, hosts[at], self.outside)
 
 
 @dataclass(frozen=True)
@@ -190,11 +214,11 @@ class Reader:
         """Reads the submits of a file, except those without a sender. Fault: a pipe's hosts are unknown."""
         history = read_told(path, "net", NET_COLUMNS)
         self.note(history)
-        get, refusals = history.rows.columns.__getitem__, [
-            int(one.split(",")[2]) for one in remarks_of_kinds(history.remarks, [b"refused"])
-        ]
+        get = history.rows.columns.__getitem__
+        refusals = [int(one.split(",")[2]) for one in remarks_of_kinds(history.remarks, [b"refused"])]
         is_handed = (get("event") == OUT) & ~np.isin(get("packet"), np.array(refusals, np.int64)) & (get("handed") >= 0)
-        submitted, handed = self.records + get("submitted"), np.where(is_handed, self.records + get("handed"), -1)
+        submitted = self.records + get("submitted")
+        handed = np.where(is_handed, self.records + get("handed"), -1)
         flow = [column[get("five_tuple")] for column in history.rows.tuples.columns()]
         is_own = (flow[2] == OUTAGE_PROTOCOL) & (get("content") == 0)
         pipe = self.pipes_of(path, history.rows.targets)[get("target")]
@@ -211,7 +235,8 @@ class Reader:
         """Returns the contents with which packets left: another one behind a flipped bit."""
         remarks = [one.split(",") for one in remarks_of_kinds(history.remarks, [b"corrupt"])]
         flips = {int(number): int(text, 16) for _, _, number, _, _, text in remarks}
-        left, packet = content.copy(), history.rows.columns["packet"]
+        left = content.copy()
+        packet = history.rows.columns["packet"]
         rows = np.flatnonzero((history.rows.columns["event"] == OUT) & np.isin(packet, np.array([*flips], np.int64)))
         left[rows] = np.array([flips[number] for number in packet[rows].tolist()], np.uint64).astype(np.int64)
         return left
@@ -229,7 +254,9 @@ class Reader:
         pipes = sorted(self.topology.pipes)
         ends = np.array([self.topology.pipes[number] for number in pipes], np.int64).reshape(-1, 2)
         place = np.searchsorted(np.array(pipes, np.int64), pipe)
-        flow, start, end = np.stack(columns[:5]), ends[place, 0], ends[place, 1]
+        flow = np.stack(columns[:5])
+        start = ends[place, 0]
+        end = ends[place, 1]
         return Passages(self.topology, flow, length, content, left, last, flooded, pipe, start, end, *columns[11:])
 
 

@@ -89,24 +89,20 @@ def ways(matching: Matched) -> list[WayFigures]:
         delay = (passages.due - passages.came)[out]
         mean, p99 = (int(delay.mean()), int(np.quantile(delay, 0.99, method="higher"))) if len(delay) else (None, None)
         if own.any():
-            packets, losses, full = (
-                int(part.sum()) for part in (own, *(own & (passages.event == event) for event in (LOST, FULL)))
-            )
-            span, ends = int(np.ptp(passages.due[out])) if len(delay) else 0, (topology.hosts[start], topology.hosts[end])
+            packets, losses, full = (int((own & which).sum()) for which in (own, passages.event == LOST, passages.event == FULL))
+            span = int(np.ptp(passages.due[out])) if len(delay) else 0
+            ends = (topology.hosts[start], topology.hosts[end])
             items.append(WayFigures(pipe, ends, packets, losses, full, int(passages.length[out].sum()), span, mean, p99))
     return items
-
-
-def told_or_none(value: Optional[float]) -> str:
-    return "-" if value is None else f"{value:.3f}"
 
 
 def of_ways(matching: Matched) -> Iterator[str]:
     """Yields a table of the ways with packets."""
     rows: list[tuple[str, ...]] = [("way", "packets", "lost", "full", "Mbit/s", "mean ms", "p99 ms")]
     for way in ways(matching):
-        times = (None if time is None else time / MS for time in (way.mean, way.p99))
-        rows.append((way.name, f"{way.packets:,}", f"{way.lost:,}", f"{way.full:,}", *map(told_or_none, (way.mbit_s, *times))))
+        values = (way.mbit_s, *(None if time is None else time / MS for time in (way.mean, way.p99)))
+        texts = ("-" if value is None else f"{value:.3f}" for value in values)
+        rows.append((way.name, f"{way.packets:,}", f"{way.lost:,}", f"{way.full:,}", *texts))
     widths = [max(map(len, column)) for column in zip(*rows)]
     for name, *fields in rows:
         yield "  ".join([name.ljust(widths[0]), *(field.rjust(width) for field, width in zip(fields, widths[1:]))])
@@ -116,13 +112,13 @@ def of_paths(matching: Matched, top: int) -> Iterator[str]:
     """Yields a line for each path over several links."""
     text = [path for path in paths(matching) if len(path.pipes) > 1]
     for path in text[:top]:
-        in_links, in_hosts = path.links.mean(axis=0), path.hosts.mean(axis=0)
+        in_links = path.links.mean(axis=0)
+        in_hosts = path.hosts.mean(axis=0)
         links, hosts = (" + ".join(f"{time / MS:.3f}" for time in times) for times in (in_links, in_hosts))
-        yield (
-            f"{' - '.join(hosts_of(matching, path))}: {len(path.sent):,} packets,"
-            f" {(in_links.sum() + in_hosts.sum()) / MS:.3f} ms: links {links}, hosts {hosts}, at most"
-            f" {path.most_in_hosts / MS:.3f}"
+        head = (
+            f"{' - '.join(hosts_of(matching, path))}: {len(path.sent):,} packets, {(in_links.sum() + in_hosts.sum()) / MS:.3f} ms"
         )
+        yield f"{head}: links {links}, hosts {hosts}, at most {path.most_in_hosts / MS:.3f}"
     if len(text) > top:
         yield f"{len(text) - top} other paths"
 
@@ -139,16 +135,15 @@ def of_faults(matching: Matched, files: list[str]) -> Iterator[str]:
             host = topology.hosts[passages.end[row] if is_lost else passages.start[row]]
             moment = passages.due[row] if is_lost else passages.came[row]
             content = int(passages.content[row]) % 2**64  # which is read as signed
-            yield (
-                f"  {files[passages.file[row]]} line {passages.line[row]}: {host} {'got' if is_lost else 'sent'} a packet"
-                f" of {passages.length[row]} bytes at "
-                f"{moment / MS:.6f} ms, content {content:016x}"
-            )
+            packet = f"a packet of {passages.length[row]} bytes at {moment / MS:.6f} ms, content {content:016x}"
+            head = f"  {files[passages.file[row]]} line {passages.line[row]}"
+            yield f"{head}: {host} {'got' if is_lost else 'sent'} {packet}"
 
 
 def summary(matching: Matched) -> str:
     """Returns a line with the counts of all packets; those of the last four kinds only where there are some."""
-    handed_on, arrived = int((matching.before != NONE).sum()), int(matching.is_there.sum()) - matching.expired
+    handed_on = int((matching.before != NONE).sum())
+    arrived = int(matching.is_there.sum()) - matching.expired
     counts = {
         "with an expired time to live": matching.expired,
         "back at their senders, as while routes change": matching.back,

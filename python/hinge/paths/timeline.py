@@ -35,8 +35,7 @@ class WayChange(NamedTuple):
 
 @dataclass(frozen=True)
 class Timeline:
-    """The changes of the ways that weren't there from the beginning, and the times in which each lost all packets, in
-    ns."""
+    """The changes of the ways that weren't there from the beginning, and the times in which each lost all packets, in ns."""
 
     changes: list[WayChange]
     cuts: dict[int, list[tuple[int, int]]]
@@ -83,7 +82,8 @@ def timeline(matching: Matched, items: list[tuple[int, str]]) -> Timeline:
     changes = [change for moment, text in items if (change := read_change(moment, text))]
     span = max([int(passages.came.max(initial=0)), int(passages.due.max(initial=0)), *(change.moment for change in changes)])
     before: dict[int, WayChange] = {}
-    new, cuts = list[WayChange](), dict[int, list[tuple[int, int]]]()
+    new = list[WayChange]()
+    cuts = dict[int, list[tuple[int, int]]]()
     for change in changes:
         last = before.get(change.pipe)
         if last and last.is_cut:
@@ -108,11 +108,8 @@ def told_changes(matching: Matched, line: Timeline) -> Iterator[str]:
     """Yields a line for the simultaneous changes of each kind."""
     groups: list[list[WayChange]] = []
     for change in line.changes:
-        like = [
-            group
-            for group in groups
-            if change.moment - group[0].moment < AT_ONCE and words_of_change(group[0]) == words_of_change(change)
-        ]
+        late = [group for group in groups if change.moment - group[0].moment < AT_ONCE]
+        like = [group for group in late if words_of_change(group[0]) == words_of_change(change)]
         like[-1].append(change) if like else groups.append([change])
     for group in groups:
         names = ", ".join(dict.fromkeys(name_of_way(matching, change.pipe) for change in group))

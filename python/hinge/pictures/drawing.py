@@ -9,7 +9,11 @@ from typing import Optional, Union
 from hinge.lazy import Integers, Reals
 
 
-SOLID, DASHED, DOTTED, MIXED, DENSE = "solid", "dash", "dot", "dashdot", "longdash"
+SOLID = "solid"
+DASHED = "dash"
+DOTTED = "dot"
+MIXED = "dashdot"
+DENSE = "longdash"
 
 
 @dataclass(frozen=True)

@@ -55,7 +55,8 @@ def draw_sources(sources: list[Source], path: str, options: LookOptions) -> None
     """Draws the picture or the page of the command line. A page shows a single source."""
     result = series_of(sources, options.by, options.top, options.step)
     drawings = [drawing(one, provenance_of(sources)) for one in result]
-    is_page, title = format_of(path) is Format.PAGE, options.title or of_run(sources[0])
+    is_page = format_of(path) is Format.PAGE
+    title = options.title or of_run(sources[0])
     parts = (sources[0].whole or sources[0]).parts
     explainer = Explainer(parts) if parts and (is_page or sources[0].seed) else None
     if explainer is not None:

@@ -130,7 +130,7 @@ class HtmlPage:
         is_of_packets = any(isinstance(item, (Band, Points)) for item in panel.items)
         marks = Panels(self.found).drop_points() if self.found and number == DELAYS else []
         return {
-            "title": panel.title + ": over a packet, why" * is_of_packets,
+            "title": panel.title + (": over a packet, why" if is_of_packets else ""),
             "across": panel.across,
             "unit": panel.across.rpartition(" ")[2],
             "up": panel.up,

@@ -26,7 +26,7 @@ from hinge.pictures.drawing import DASHED, SOLID, Bars, Drawing, Item, Key, Line
 from hinge.pictures.panels import COLORS
 from hinge.pictures.series import NS_PER_S
 from hinge.run.words import Wrong
-from hinge.simulated.failures import NET, file_beside
+from hinge.simulated.failures import NET_KEY, file_beside
 
 SHADE, BAR, INCHES = "#f3cfc6", 9.0, 4.0
 WIDTH = 80  # letters of a line beside the picture
@@ -47,7 +47,7 @@ def net_in(path: Path) -> Iterator[Path]:
     if not read_bytes(str(path), MOST_TEXT).startswith(b"{"):
         yield path
         return
-    lines = read_object(path, "no failure").get(NET)
+    lines = read_object(path, "no failure").get(NET_KEY)
     if not isinstance(lines, list):
         raise Fault(f"{path}: no failure of a net", FILES)
     with file_beside(path.absolute(), "".join(f"{line}\n" for line in lines)) as net:
@@ -76,7 +76,8 @@ def shade_of(one: TimedEvent, end: Optional[int], events: list[TimedEvent]) -> S
 
 def operations_drawing(name: str, fewest: list[Operation], shades: list[Shade]) -> Drawing:
     """Each operation has a color, which also marks its words; an operation that never returned is dashed and lasts."""
-    first, last = min(one.begin for one in fewest), max(one.end if one.is_over else one.begin for one in fewest)
+    first = min(one.begin for one in fewest)
+    last = max(one.end if one.is_over else one.begin for one in fewest)
     shades = [one for one in shades if one.begin <= last and one.end >= first]
     spans = [*((one.begin, one.end) for one in fewest), *((one.begin, one.end) for one in shades)]
     moments = sorted({*(begin for begin, _ in spans), *(min(end, last) for _, end in spans)} - {-math.inf})
@@ -88,7 +89,9 @@ def operations_drawing(name: str, fewest: list[Operation], shades: list[Shade]) 
     )
     keys = list[Key]()
     for number, one in enumerate(fewest):
-        color, told, dash = COLORS[number % len(COLORS)], f"{name}:{one.line}: {one.told()}", SOLID if one.is_over else DASHED
+        color = COLORS[number % len(COLORS)]
+        told = f"{name}:{one.line}: {one.told()}"
+        dash = SOLID if one.is_over else DASHED
         x = np.array([place[one.begin], place[min(one.end, last)] if one.is_over else len(moments) - 0.5])
         y = np.full(2, clients.index(one.client) + 0.5)
         items.append(Line(str(one.line), x, y, color, number, BAR, dash, steps=False))
@@ -103,7 +106,8 @@ def operations_drawing(name: str, fewest: list[Operation], shades: list[Shade]) 
 def look_at_operations(options: LookOptions, name: str, faults: Optional[str] = None) -> int:
     """Judges the operations, and draws the fewest without an order; returns the status."""
     refuse_inputs(options.outputs, options.source)
-    shades, findings = shades_of(faults) if faults else [], Findings()
+    shades = shades_of(faults) if faults else []
+    findings = Findings()
     fewest = check_operations(name, read_bytes(name, MOST_TEXT), options.model or "", findings)
     for output in options.o if fewest else []:
         with written(output) as place:

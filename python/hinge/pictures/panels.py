@@ -9,6 +9,7 @@ from hinge.arguments import PICTURE_FLOWS
 from hinge.lazy import Integers, Reals, np
 from hinge.pictures.drawing import DASHED, DENSE, DOTTED, MIXED, SOLID, Band, Bars, Drawing, Item, Key, Line, Panel, Points
 from hinge.pictures.series import CAUSES, NS_PER_MS, NS_PER_S, Flow, Series, Steps, spread
+from hinge.pictures.settings import A_FLOW
 from hinge.replays.groups import order_of
 from hinge.replays.remarks import LEAST_LATE
 from hinge.replays.replay import EVENT_NAMES
@@ -67,13 +68,9 @@ class Panels:
             RESTS[rests.index(number) % len(RESTS)] if flow.is_rest else COLORS[number]
             for number, flow in enumerate(flows_in_time.flows)
         ]
-        pipes = sorted(
-            {*flows_in_time.carried, *flows_in_time.capacities, *flows_in_time.waiting},
-            key=lambda name: (name.split()[0], int(name.split()[1].rstrip(","))),
-        )
-        self.pipes = {
-            name: PIPES[number % len(PIPES)] for number, name in enumerate(dict.fromkeys(name.partition(",")[0] for name in pipes))
-        }
+        names = {*(name.removesuffix(A_FLOW) for name in flows_in_time.capacities), *flows_in_time.carried, *flows_in_time.waiting}
+        order = sorted(names, key=lambda name: (name.split()[0], len(name), name))
+        self.pipes = {name: PIPES[number % len(PIPES)] for number, name in enumerate(order)}
 
     def flows(self) -> Iterator[tuple[int, Flow, str]]:
         """Yields the flows with numbers and colors, the largest on top and the rest at the bottom."""
@@ -97,7 +94,7 @@ class Panels:
         for name, (moments, rates) in result.capacities.items():
             text = f"{name}: {range_of(rates, 'Mbit/s')}"
             if np.nanmax(rates) <= MOST_ABOVE * most:
-                color, _ = self.pipes[name.partition(",")[0]]
+                color, _ = self.pipes[name.removesuffix(A_FLOW)]
                 items.append(Line(f"capacity of {text}", moments, rates, color, width=1.2, dash=DOTTED, is_behind=True))
             else:
                 notes.append(f"capacity of {text}, above this panel")
@@ -131,17 +128,17 @@ class Panels:
                 items.append(Points(flow.name, places, result.sent_at(places), result.took_ms(places), color, number))
         if not items:
             return None
-        notes = (
-            [f"band: {LOW} to {HIGH} of 100 packets sent in {time_of(self.of_bands.length)}; line: the median"] if has_band else []
-        )
-        lines, above = self.bounds()
+        band = f"band: {LOW} to {HIGH} of 100 packets sent in {time_of(self.of_bands.length)}; line: the median"
+        notes = [band] if has_band else []
+        (lines, above) = self.bounds()
         return Panel("One-way delay", "sent at, s", "ms", items + lines, notes + above, from_zero=False)
 
     def bounds(self) -> tuple[list[Item], list[str]]:
         """Returns the proved bound on each pipe's delay: a line, or a note if it is far above the delays."""
         lines, notes = list[Item](), list[str]()
         for one in self.found.bounds:
-            limit, most = one.bound.due_ns / NS_PER_MS, (one.delay_ns or 0) / NS_PER_MS
+            limit = one.bound.due_ns / NS_PER_MS
+            most = (one.delay_ns or 0) / NS_PER_MS
             text = f"bound on the delay of {one.name}: {limit:,.6g} ms"
             if limit <= MOST_ABOVE * most:
                 ends = np.array([0, self.found.steps.span]) / NS_PER_S
@@ -162,7 +159,8 @@ class Panels:
         """Returns the panel with the packets waiting for each pipe or queue, with its limit."""
         items, notes = list[Item](), list[str]()
         for name, (moments, lengths) in self.found.waiting.items():
-            places, most = spread(np.arange(len(moments)), MOST_COUNTS), int(lengths.max(initial=0))
+            places = spread(np.arange(len(moments)), MOST_COUNTS)
+            most = int(lengths.max(initial=0))
             if not most:
                 continue
             color, _ = self.pipes[name]
@@ -171,7 +169,8 @@ class Panels:
             if limit is None:
                 continue
             if limit.numbers is not None and np.nanmax(limit.numbers) <= MOST_ABOVE * most:
-                text, numbers = f"limit of {name}: {limit.told}", limit.numbers.astype(float)
+                text = f"limit of {name}: {limit.told}"
+                numbers = limit.numbers.astype(float)
                 items.append(Line(text, limit.moments, numbers, color, width=1.2, dash=DASHED, is_behind=True))
             else:
                 notes.append(f"limit of {name}: {limit.told}" + (", above this panel" if limit.numbers is not None else ""))
@@ -197,7 +196,8 @@ class Panels:
 
     def lateness(self) -> Optional[Panel]:
         """Returns the panel with a live host's lateness and unread packets in each second: delays that no link caused."""
-        dashes, items = {"late": SOLID, "unread": DOTTED}, list[Line]()
+        dashes = {"late": SOLID, "unread": DOTTED}
+        items = list[Line]()
         for number, (way, of_way) in enumerate(self.found.lateness.items()):
             for which, (moments, ms) in of_way.items():
                 x, y = np.append(0, moments), np.append(ms, ms[-1:])  # each is of the time up to its moment

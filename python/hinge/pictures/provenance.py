@@ -19,7 +19,7 @@ BY_MODEL = re.compile(r"\bplr 0?\.50*(?!\S)")  # the rate under which the words 
 
 def provenance(lines: Sequence[str], files: Sequence[str], seed: Optional[str] = None) -> list[str]:
     """Returns the lines of the configuration, the files, the seed if known, and the version."""
-    view = list(lines[:MOST_LINES]) + [f"and {len(lines) - MOST_LINES} lines more"] * (len(lines) > MOST_LINES)
+    view = list(lines[:MOST_LINES]) + ([f"and {len(lines) - MOST_LINES} lines more"] if len(lines) > MOST_LINES else [])
     names = printable(", ".join(Path(name).name for name in files))
     product = "; ".join([f"of {names}", *([f"seed {seed}"] if seed else []), f"hinge {version()}"])
     return ["; ".join(view), product] if view else [product]
@@ -32,7 +32,8 @@ def model_of(packets: Packets, target: tuple[str, int]) -> str:
     is_lost = words == LOST
     if not len(words) or not (is_lost | (words == KEPT)).all():
         return ""
-    count, bursts = int(is_lost.sum()), int(np.count_nonzero(np.diff(is_lost.astype(int), prepend=0) == 1))
+    count = int(is_lost.sum())
+    bursts = int(np.count_nonzero(np.diff(is_lost.astype(int), prepend=0) == 1))
     in_a_row = f", {count / bursts:.3g} in a row" if bursts else ""
     return f"losses by a model ({count / len(words) * 100:.3g} % of {len(words):,} packets{in_a_row})"
 

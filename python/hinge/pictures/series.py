@@ -2,12 +2,13 @@
 
 from __future__ import annotations
 
-from dataclasses import dataclass, field
+from dataclasses import dataclass, field, replace
 from typing import Iterable, Iterator, Optional
 
+from hinge.arguments import PICTURE_FLOWS
 from hinge.border.terminal import several
 from hinge.lazy import Integers, Reals, np
-from hinge.pictures.settings import Limits, capacities, limits, pipe_names
+from hinge.pictures.settings import A_FLOW, Limits, capacities, limits, pipe_names
 from hinge.replays.bounds import Bounded
 from hinge.replays.groups import Groups, group
 from hinge.replays.remarks import Lateness
@@ -19,6 +20,7 @@ FEWEST_STEPS = 20
 PACKETS_A_STEP = 40  # so that one packet more or less in a step doesn't show
 PACKETS_OF_LARGEST = 10  # of them those of the largest flow
 MOST_RANKS = 2_000  # of a distribution
+MOST_PIPES = PICTURE_FLOWS  # each with its lines
 CAUSES = (LOST, FULL, NONE)
 
 
@@ -146,7 +148,7 @@ def fitting_step(replays: list[Replay], span: int) -> int:
 
 def runs_of(ordered: Integers) -> Integers:
     """Returns the end of each run with equal numbers."""
-    return np.flatnonzero(np.append(ordered[1:] != ordered[:-1], [True] * (len(ordered) > 0)))
+    return np.flatnonzero(np.append(ordered[1:] != ordered[:-1], [True] if len(ordered) > 0 else []))
 
 
 def span_of(replays: list[Replay]) -> int:
@@ -166,7 +168,8 @@ def thinned(places: Integers, replay: Replay, most: int) -> Integers:
     at, took = replay.at[places], replay.took[places]
     stretch = (at - at.min()) // ((int(at.max()) - int(at.min())) // (most // 4) + 1)
     order = np.argsort(stretch, kind="stable")
-    begins, took = np.flatnonzero(np.diff(stretch[order], prepend=-1)), took[order]
+    begins = np.flatnonzero(np.diff(stretch[order], prepend=-1))
+    took = took[order]
     counts = np.diff(np.append(begins, len(order)))
     extremes = np.minimum.reduceat(took, begins), np.maximum.reduceat(took, begins)
     low, high = (np.flatnonzero(took == np.repeat(extreme, counts)) for extreme in extremes)
@@ -194,25 +197,29 @@ def waiting(replay: Replay, places: Integers) -> tuple[Reals, Reals]:
     return moments[order][ends] / NS_PER_S, np.cumsum(ups[order])[ends].astype(float)
 
 
-def shared_pipes(replay: Replay, groups: Groups, pipes: dict[str, str]) -> dict[str, Integers]:
-    """Returns the places of the packets for each pipe, or queue with an unknown pipe, except if all belong to one drawn flow."""
+def pipes_of(replay: Replay, known: dict[str, str]) -> Groups:
+    """Returns the rows in groups by pipe, or by queue if its pipe is unknown; a picture sums up all but the largest."""
+    targets = group(replay, "target")
+    names = [known.get(name, name) for name in targets.names]
+    numbers = {name: number for number, name in enumerate(dict.fromkeys(names))}
+    pipes = Groups(np.array([numbers[name] for name in names], np.int64)[targets.of], [*numbers])
+    if len(numbers) <= MOST_PIPES:
+        return pipes
+    *large, others = (pipes := pipes.largest(replay.packets.length, MOST_PIPES)).names
+    return replace(pipes, names=[*large, others.replace("others", "other pipes")])
+
+
+def shared(replay: Replay, groups: Groups, pipes: Groups) -> dict[str, Integers]:
+    """Returns the places of the packets for each pipe, except if all belong to one drawn flow."""
     rest = len(groups.names) - 1 if groups.has_rest else -1  # which stands for several
     return {
         name: places
-        for name, places in by_pipe(replay, pipes).items()
+        for name, places in pipes.places()
         if len(column := np.flatnonzero(np.bincount(groups.of[places]))) > 1 or rest in column and replay.is_out[places].any()
     }
 
 
-def by_pipe(replay: Replay, pipes: dict[str, str]) -> dict[str, Integers]:
-    """Returns the places of the packets for each pipe, or queue with an unknown pipe."""
-    table: dict[str, list[Integers]] = {}
-    for name, places in group(replay, "target").places():
-        table.setdefault(pipes.get(name, name), []).append(places)
-    return {name: np.sort(np.concatenate(several), kind="stable") for name, several in table.items()}
-
-
-def named_places(replay: Replay, groups: Groups, pipes: dict[str, str]) -> Iterator[tuple[str, Integers, bool]]:
+def named_places(groups: Groups, pipes: Groups) -> Iterator[tuple[str, Integers, bool]]:
     """Yields each flow's places in a single pipe or queue, and whether the flow stands for several."""
     last = len(groups.names) - 1 if groups.has_rest else -1
     for number, (name, places) in enumerate(groups.places()):
@@ -220,7 +227,7 @@ def named_places(replay: Replay, groups: Groups, pipes: dict[str, str]) -> Itera
             yield name, places, False
             continue
         is_there = groups.of == last
-        parts = {pipe: there[is_there[there]] for pipe, there in by_pipe(replay, pipes).items() if is_there[there].any()}
+        parts = {pipe: there[is_there[there]] for pipe, there in pipes.places() if is_there[there].any()}
         for pipe, there in parts.items():
             count = np.count_nonzero(np.bincount(groups.each[there])) if groups.each is not None else 0
             yield (f"{several(count, 'other')} of {pipe}" if len(parts) > 1 else name), there, True
@@ -252,12 +259,17 @@ def series(
     bounds: Iterable[Bounded] = (),
 ) -> Series:
     steps, changes = Steps(step_ns, span), list(changes)
-    pipes = pipe_names(changes)
-    flows = [flow_series(replay, name, places, is_rest, steps) for name, places, is_rest in named_places(replay, groups, pipes)]
+    pipes = pipes_of(replay, pipe_names(changes))
+    queues = group(replay, "target")
+    queues = queues.largest(replay.packets.length, MOST_PIPES) if len(queues.names) > MOST_PIPES else queues
+    flows = [flow_series(replay, name, places, is_rest, steps) for name, places, is_rest in named_places(groups, pipes)]
     drops = {EVENT_NAMES[cause]: steps.counts(replay.at[replay.event == cause]) for cause in CAUSES}
-    queues = {name: waiting(replay, places) for name, places in group(replay, "target").places()}
-    common = shared_pipes(replay, groups, pipes)
+    waits = {name: waiting(replay, places) for name, places in queues.places()}
+    common = shared(replay, groups, pipes)
+    rates = capacities(changes, span)
     rates_out = {name: carried(replay, places, steps) for name, places in common.items()}
     rates_in = {name: offered(replay, places, steps) for name, places in common.items()}
-    settings = capacities(changes, span), limits(changes, span)
-    return Series(replay, steps, flows, drops, queues, rates_out, rates_in, *settings, lateness or {}, list(bounds))
+    if len(rates) > MOST_PIPES:
+        rates = {name: points for name, points in rates.items() if name.removesuffix(A_FLOW) in pipes.names}
+    settings = rates, limits(changes, span), lateness or {}, [one for one in bounds if one.name in pipes.names]
+    return Series(replay, steps, flows, drops, waits, rates_out, rates_in, *settings)

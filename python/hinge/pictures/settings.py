@@ -9,6 +9,8 @@ from hinge.configurations.configured import Limit, Pipe, Queue, setting_of
 from hinge.lazy import Integers, Reals, np
 from hinge.replays.remarks import NS_PER_S
 
+A_FLOW = ", a flow"  # behind the name of a pipe that gives its bandwidth to each flow
+
 
 @dataclass(frozen=True)
 class Limits:
@@ -27,13 +29,9 @@ def capacities(changes: Iterable[tuple[int, str]], span: int) -> dict[str, tuple
         kind, number, setting = setting_of(text)
         if kind == "pipe":
             rate = setting.bw / 10**6 if isinstance(setting, Pipe) and setting.bw else np.nan
-            table.setdefault(f"pipe {number}{', a flow' * ('mask' in text.split())}", []).append((moment, rate))
-    steps = {name: [*points, (max(span, points[-1][0]), points[-1][1])] for name, points in table.items()}
-    return {
-        name: (np.array([at for at, _ in points]) / NS_PER_S, np.array([rate for _, rate in points]))
-        for name, points in steps.items()
-        if not np.isnan([rate for _, rate in points]).all()
-    }
+            table.setdefault(f"pipe {number}{A_FLOW * ('mask' in text.split())}", []).append((moment, rate))
+    columns = {name: np.array([*points, (max(span, points[-1][0]), points[-1][1])]).T for name, points in table.items()}
+    return {name: (moments / NS_PER_S, rates) for name, (moments, rates) in columns.items() if not np.isnan(rates).all()}
 
 
 def limits(changes: Iterable[tuple[int, str]], span: int) -> dict[str, Limits]:
@@ -49,7 +47,7 @@ def limits(changes: Iterable[tuple[int, str]], span: int) -> dict[str, Limits]:
 def limits_of(points: list[tuple[int, Limit, bool]], span: int) -> Limits:
     last, limit, has_mask = points[-1]
     moments = np.array([*(moment for moment, _, _ in points), max(span, last)]) / NS_PER_S
-    each = ", each flow" * has_mask
+    each = ", each flow" if has_mask else ""
     if any(limit.slots is None for _, limit, _ in points):
         return Limits(moments, None, f"{limit.kbytes} Kbytes{each}" if limit.kbytes else f"{limit.slots:,} packets{each}")
     numbers = np.array([*(limit.slots for _, limit, _ in points), limit.slots])

@@ -7,13 +7,13 @@ from __future__ import annotations
 import re
 from typing import Iterator, NamedTuple
 
-from hinge.plans.meaning import NEVER, SECOND, Meaning, ns_of
+from hinge.plans.meaning import FOR_EVER, SECOND, Meaning, ns_of
 from hinge.plans.spelling import Unread
 from hingetulip_words.presets import preset
 
-ENDS = ("client", "server")
+RUN_HOSTS = ("client", "server")
 CHOSEN = re.compile(r"(?P<way>client > server|server > client) packet (?P<packet>\d+) (?P<kind>lost|twice|late)(?: (?P<ms>\d+)ms)?")
-ACT = re.compile(r"at (?P<at>\S+) (?P<kind>cut|hold) (?P<way>client > server|server > client) (?P<length>\S+)")
+LINK_ACT = re.compile(r"at (?P<at>\S+) (?P<kind>cut|hold) (?P<way>client > server|server > client) (?P<length>\S+)")
 SIDES = {"client > server": "up", "server > client": "down"}
 
 
@@ -39,7 +39,8 @@ class OfRun(Meaning):
     def __init__(self, asked: list[Asked]) -> None:
         super().__init__("the command line", None)
         self.asked = asked
-        self.hosts, self.links = dict.fromkeys(ENDS, "host"), [ENDS]
+        self.hosts = dict.fromkeys(RUN_HOSTS, "host")
+        self.links = [RUN_HOSTS]
 
     def of(self, *options: str) -> Iterator[Asked]:
         return (one for option in options for one in self.asked if one.option == option)
@@ -57,7 +58,7 @@ class OfRun(Meaning):
             del self.chosen[pipe]
         for one in self.of("--timeline"):
             time, *words = one.text.split()
-            self.of_link(one.where, ns_of(time), 0, 0, words, 0)
+            self.link_change(one.where, ns_of(time), 0, 0, words, 0)
         self.spell()
         for pipe, option in enumerate(("--up-trace", "--down-trace"), 1):
             self.trace(pipe, option)
@@ -79,7 +80,8 @@ class OfRun(Meaning):
             is_line = f"pipe {pipe}" in named
             text = own[0].text if own else getattr(both[0], side) if both and not is_line else ""
             self.words[pipe] = text.split()
-            line, where = self.line_of(pipe, text.split()), own[0].where if own else f"pipe {pipe}"
+            line = self.line_of(pipe, text.split())
+            where = own[0].where if own else f"pipe {pipe}"
             if is_line and line != f"pipe {pipe} config":
                 behind.append((where, line))
             elif not is_line:
@@ -90,13 +92,14 @@ class OfRun(Meaning):
             self.add(where, 0, line)
 
     def fault(self, one: Asked) -> None:
-        chosen, act = CHOSEN.fullmatch(one.text), ACT.fullmatch(one.text)
+        chosen = CHOSEN.fullmatch(one.text)
+        act = LINK_ACT.fullmatch(one.text)
         if chosen:
             of_way = self.chosen[2 if chosen["way"] == "server > client" else 1]
             of_way.setdefault(chosen["kind"], {})[int(chosen["packet"])] = int(chosen["ms"] or 0)
         elif act:
-            lossy = ["lossy"] * (act["kind"] == "cut")
-            self.of_link(one.where, ns_of(act["at"]), 0, 0, [SIDES[act["way"]], "outage", act["length"], *lossy], 0)
+            lossy = ["lossy"] if act["kind"] == "cut" else []
+            self.link_change(one.where, ns_of(act["at"]), 0, 0, [SIDES[act["way"]], "outage", act["length"], *lossy], 0)
         else:
             raise Unread(f"{one.where}: no fault of a run")
 
@@ -109,7 +112,7 @@ class OfRun(Meaning):
         first = [one for one in self.events if (one.target, one.kind, one.moment) == (("pipe", pipe), "line", 0)][-1].line
         bare = re.sub(r" bw \S+", "", first)
         rates = [(round(float(at) * SECOND), round(float(rate))) for at, rate in rows]
-        for (at, rate), end in zip(rates, [*(at for at, _ in rates[1:]), NEVER]):
+        for (at, rate), end in zip(rates, [*(at for at, _ in rates[1:]), FOR_EVER]):
             where = f"{option} `{at / SECOND:g},{rate}`"
             if rate:
                 self.add(where, at, bare.replace(" config", f" config bw {rate}bit/s", 1))
@@ -118,4 +121,4 @@ class OfRun(Meaning):
 
     def at(self, where: str, word: str, text: str, doubt: int = 0) -> None:
         """Adds a request from the control socket."""
-        self.of_link(where, self.moment(word), 0, 0, text.split(), doubt)
+        self.link_change(where, self.moment(word), 0, 0, text.split(), doubt)

@@ -7,7 +7,7 @@ from fractions import Fraction
 from itertools import count
 from typing import Iterator, Optional, Union
 
-LOST, NONE = 0, (1 << 31) - 1  # the word of a packet that is lost, and of one that isn't, beside a model
+LOSS, NO_LOSS = 0, (1 << 31) - 1  # the word of a packet that is lost, and of one that isn't, beside a model
 MOST_LISTED = 10**6  # packets of a range
 OF_JITTER, OF_COPIES, OF_CORRUPTION, OF_BITS = (number << 20 for number in range(1, 5))
 Chosen = dict[str, dict[int, int]]  # by kinds: packets of a way, and how late they are, in ms
@@ -18,10 +18,10 @@ def word(seed: int, stream: int, number: int) -> int:
     mixed = seed * 0x9E3779B97F4A7C15 + number * 0xD1B54A32D192ED03 + stream * 0x8CB92BA72F3D8DD7 & (1 << 64) - 1
     mixed = (mixed ^ mixed >> 30) * 0xBF58476D1CE4E5B9 & (1 << 64) - 1
     mixed = (mixed ^ mixed >> 27) * 0x94D049BB133111EB & (1 << 64) - 1
-    return (mixed ^ mixed >> 31) & NONE
+    return (mixed ^ mixed >> 31) & NO_LOSS
 
 
-def parts(rate: Union[str, Fraction]) -> int:
+def chance_of(rate: Union[str, Fraction]) -> int:
     return int(Fraction(rate) * (1 << 31) + Fraction(1, 2))
 
 
@@ -35,9 +35,12 @@ class Draws:
 
     def __init__(self, seed: int, way: int, words: list[str], model: str, chosen: Optional[Chosen]) -> None:
         """Follows the link's words, and `gilbert:..` or `list:..`. Chosen packets decide about all losses."""
-        self.seed, self.way, self.model, self.chosen = seed, way, model, chosen
+        self.seed = seed
+        self.way = way
+        self.model = model
+        self.chosen = chosen
         self.copies, self.corruption = (
-            parts(Fraction(after(words, name).rstrip("%") or 0) / 100) for name in ("duplicate", "corrupt")
+            chance_of(Fraction(after(words, name).rstrip("%") or 0) / 100) for name in ("duplicate", "corrupt")
         )
         self.jitter = int(after(words, "jitter").removesuffix("ms") or 0)
         self.late = (chosen or {}).get("late", {})
@@ -50,24 +53,27 @@ class Draws:
         draws = (word(self.seed, self.way, number) for number in count(1))
         if self.chosen is not None or kind == "list":
             lost = {*(self.chosen or {}).get("lost", ())} | (listed(rest) if kind == "list" else set())
-            yield from (LOST if number in lost else NONE for number in count(1))
+            yield from (LOSS if number in lost else NO_LOSS for number in count(1))
         elif kind == "gilbert":
             rates = rest.split(",") + ["1", "0"][rest.count(",") - 1 :]
-            to_bad, to_good, in_bad, in_good = map(parts, rates)
+            to_bad, to_good, in_bad, in_good = map(chance_of, rates)
             is_bad = False
             while True:
-                yield LOST if next(draws) < (in_bad if is_bad else in_good) else NONE
+                yield LOSS if next(draws) < (in_bad if is_bad else in_good) else NO_LOSS
                 is_bad ^= next(draws) < (to_good if is_bad else to_bad)
         else:
             yield from draws
 
     def drawn(self) -> Iterator[tuple[int, int]]:
         """Yields the number and word of each packet that enters, and repeats a packet that is chosen or drawn to be copied."""
-        twice, losses, is_copy, copies = (self.chosen or {}).get("twice", {}), self.losses(), False, count(1)
+        twice = (self.chosen or {}).get("twice", {})
+        losses = self.losses()
+        is_copy = False
+        copies = count(1)
         for number in count(1):
             yield number, next(losses)
             if number in twice:
-                yield number, NONE
+                yield number, NO_LOSS
             is_copy = not is_copy and bool(self.copies) and word(self.seed, OF_COPIES + self.way, next(copies)) < self.copies
 
     def has_passes(self) -> bool:

@@ -10,10 +10,10 @@ from heapq import heapify, heappop, heappush
 from typing import Iterable, Iterator, Optional
 
 from hinge.plans.courses import Course
-from hinge.plans.draws import LOST, Draws
-from hinge.plans.meaning import Event, Meaning
+from hinge.plans.draws import LOSS, Draws
+from hinge.plans.meaning import LineEvent, Meaning
 from hinge.plans.of_hosts import MS, OfHosts, seconds
-from hinge.plans.spelling import Options, Target, options_of
+from hinge.plans.spelling import LineOptions, Target, options_of
 
 NOBODY = "255"  # the protocol of the packet of an outage
 ENTRIES_TOLD = 3  # the first format of a net's transcript with remarks of `hinge exec`
@@ -26,17 +26,17 @@ class Judge(OfHosts):
     def __init__(self, meaning: Meaning, limit: int) -> None:
         """Acts on hosts may be late by the limit, in ns."""
         super().__init__(meaning, limit)
-        self.in_force: dict[Target, Options] = {}
+        self.in_force: dict[Target, LineOptions] = {}
         self.configured_at: dict[Target, int] = {}
         self.paced: set[Target] = {("pipe", number) for number in meaning.traced}
-        self.unjudged: list[tuple[Target, Options, str]] = []  # lines before the next moment
+        self.unjudged: list[tuple[Target, LineOptions, str]] = []  # lines before the next moment
         self.of = defaultdict[Target, Course](Course)
-        self.due: list[tuple[int, int, Event]] = []  # what is to be looked at, and when
+        self.due: list[tuple[int, int, LineEvent]] = []  # what is to be looked at, and when
         self.lines_of_cuts: set[tuple[int, str]] = set()  # the words of lines that cut or heal, and their moments
         self.note(meaning.events)
         self.asked: set[str] = set()  # the last change by the control socket
-        self.before: Optional[tuple[Target, Options, str]] = None  # what a line changes that the links haven't answered yet
-        self.held: dict[str, tuple[Event, int]] = {}  # by packets, with the delay of the link
+        self.before: Optional[tuple[Target, LineOptions, str]] = None  # what a line changes that the links haven't answered yet
+        self.held: dict[str, tuple[LineEvent, int]] = {}  # by packets, with the delay of the link
         self.packets = 0
         self.submitted: Optional[tuple[Target, int, list[str]]] = None
         self.seed: Optional[int] = None
@@ -48,7 +48,7 @@ class Judge(OfHosts):
         self.middles: dict[str, int] = {}  # where the jitter of a way begins, and the way's pipe
         self.way_of: dict[int, int] = {}  # the way's pipe of each pipe of a second pass
 
-    def note(self, events: list[Event]) -> None:
+    def note(self, events: list[LineEvent]) -> None:
         self.note_acts(events)
         self.lines_of_cuts |= {(one.moment, words) for one in events for words in WORDS_OF_CUT.findall(one.where)}
         for one in (one for one in events if not one.host):
@@ -56,10 +56,11 @@ class Judge(OfHosts):
             for moment in (one.moment, one.end) if one.kind != "hold" else ():
                 heappush(self.due, (moment + one.doubt, one.place, one))
 
-    def fits(self, target: Target, options: Options, moment: int, is_past: bool, until: int) -> bool:
+    def fits(self, target: Target, options: LineOptions, moment: int, is_past: bool, until: int) -> bool:
         """Returns whether a line is requested at a moment. During a hold, which may begin up to another hold, a pipe has the rates
         of the waiting packets, and then the last packet's rate up to its next line."""
-        of, since = self.of[target], self.configured_at.get(target, 0)
+        of = self.of[target]
+        since = self.configured_at.get(target, 0)
         hold = of.hold(until + 1)
         is_paced = target in self.paced or hold is not None and since < hold.end
         return of.fits(options, moment, is_past, is_paced)
@@ -101,7 +102,7 @@ class Judge(OfHosts):
             at, _, event = heappop(self.due)
             options = self.in_force.get(event.target)
             if not self.fits(event.target, options, at, True, moment):
-                told = self.told(options)
+                told = self.options_text(options)
                 self.fault(at, f"{event.where} wasn't done: {self.name(event.target)} is `{told}` at {seconds(at)}")
 
     def configured(self, text: str) -> None:
@@ -113,7 +114,7 @@ class Judge(OfHosts):
         if not self.fits(target, options, self.now, False, self.now):
             self.unjudged.append((target, options, text))
 
-    def refused(self, target: Target, before: Options, line: str, reply: str) -> None:
+    def refused(self, target: Target, before: LineOptions, line: str, reply: str) -> None:
         """Handles a refused line: the line changes nothing, and its request on the control socket is void."""
         self.in_force[target] = before
         requests = [one for one in self.of[target].lines if one.doubt and options_of(one.line) == options_of(line)]
@@ -186,11 +187,12 @@ class Judge(OfHosts):
         is_all = set[bool]().union(*(course.is_cut(at) for at in (moment - 1, moment)))
         may_be_lost = False in is_all and any(True in state for of_port in states for state in of_port)
         must_be_lost = True not in is_all and any(of_port == [{True}, {True}] for of_port in states)
-        return {LOST} if must_be_lost else {LOST, word} if may_be_lost else {word}
+        return {LOSS} if must_be_lost else {LOSS, word} if may_be_lost else {word}
 
     def passed_again(self, moment: int, pipe: Target, number: str) -> None:
         """The second pass of the packet that left first on its way has the drawn or chosen delay."""
-        delay, way = self.delay(pipe) // MS, self.way_of.get(pipe[1])
+        delay = self.delay(pipe) // MS
+        way = self.way_of.get(pipe[1])
         if way in self.meaning.undrawn or way is None and self.meaning.undrawn:
             return
         first = next((place for place, (draws, _) in enumerate(self.left) if way in (None, draws.way + 1)), None)
@@ -208,7 +210,8 @@ class Judge(OfHosts):
 
     def lossless(self, target: Target, pipe: Target, moment: int) -> None:
         """Reports a queue without a loss whose link has one."""
-        lines, own = self.of[pipe].latest(moment), self.of[target].latest(moment)
+        lines = self.of[pipe].latest(moment)
+        own = self.of[target].latest(moment)
         if target[0] != "queue" or not lines or not own or own.place in self.meaning.own_loss or pipe[1] in self.meaning.decided:
             return
         if "plr" in (options_of(lines.line)[1] or {}):
@@ -290,8 +293,8 @@ class Judge(OfHosts):
         yield from (f"{self.meaning.path} {one.text}" for one in self.faults)
         yield from self.remarks
         count = len({one.where for one in self.meaning.events if one.moment <= self.now and "control socket" not in one.where})
-        yield f"{'not ' * bool(self.faults)}as {self.meaning.path} says: {count} lines, {len(self.acts)} acts, {self.packets} packets"
+        yield f"{'not ' if self.faults else ''}as {self.meaning.path} says: {count} lines, {len(self.acts)} acts, {self.packets} packets"
 
     @staticmethod
-    def told(options: Options) -> str:
+    def options_text(options: LineOptions) -> str:
         return "deleted" if options is None else " ".join(f"{key} {text}" for key, text in options.items()) or "open"

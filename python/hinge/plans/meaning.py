@@ -11,14 +11,14 @@ from typing import Iterator, NamedTuple, Optional
 
 from hinge.border.files import lines_in
 from hinge.plans.draws import Chosen
-from hinge.plans.spelling import OPTIONS, Target, Unread, options_of, spelled
+from hinge.plans.spelling import OPTION_WORDS, Target, Unread, options_of, dummynet_lines
 from hingetulip_words.presets import preset
 
 SECOND = 10**9
 UNITS = {"ns": 1, "us": 10**3, "ms": 10**6, "s": 10**9, "min": 60 * 10**9, "h": 3600 * 10**9, "": 10**9}
-NEVER = 2**62
+FOR_EVER = 2**62
 RATE, DELAY = re.compile(r"\d+[kmg]?(bits?|bytes?)/s", re.I), re.compile(r"\d+ms")
-ENDS = {"kill": "restart", "crash": "restart", "stop": "cont"}
+ACT_ENDS = {"kill": "restart", "crash": "restart", "stop": "cont"}
 PROTOCOLS = {"tcp": "6", "udp": "17"}
 OF_HOST = ("jitter", "duplicate", "corrupt")  # the words of a link that aren't dummynet's
 NEMESES = {"kill-one": "kill", "crash-one": "crash", "stop-one": "stop"}  # the others cut
@@ -39,7 +39,7 @@ def without_port(words: list[str]) -> tuple[list[str], tuple[str, ...]]:
     return words, ()
 
 
-class Event(NamedTuple):
+class LineEvent(NamedTuple):
     """A file's request for one way or host, with its start and end."""
 
     moment: int
@@ -62,7 +62,7 @@ class Meaning:
     hosts: dict[str, str] = field(default_factory=dict)  # and the words by which each is there
     links: list[tuple[str, str]] = field(default_factory=list)
     queues: dict[tuple[int, int], int] = field(default_factory=dict)
-    events: list[Event] = field(default_factory=list)
+    events: list[LineEvent] = field(default_factory=list)
     decided: set[int] = field(default_factory=set)  # the pipes whose losses a model decides
     models: dict[int, str] = field(default_factory=dict)  # of losses, by pipes
     chosen: dict[int, Chosen] = field(default_factory=dict)  # packets, by pipes
@@ -76,7 +76,7 @@ class Meaning:
     def read(self) -> Meaning:
         self.declared()
         if self.main is None and any(words[0] == "main" for _, words in self.statements()):
-            self.main = NEVER // 2  # it never began
+            self.main = FOR_EVER // 2  # it never began
         self.take_all(("loss", "faults", "map"), ("line",), ("trace",), ("at",), ("nemesis",))
         if self.drawn:
             raise Unread(f"the transcript has drawn lines that no line of the file asks for: {self.drawn[0]}")
@@ -97,7 +97,8 @@ class Meaning:
     def statements(self) -> Iterator[tuple[int, list[str]]]:
         before, first = "", 0
         for number, line in enumerate(lines_in(self.path), 1):
-            first, line = first if before else number, before + line.strip()
+            first = first if before else number
+            line = before + line.strip()
             before = line[:-1] + " " if line.endswith("\\") else ""
             if not before and line and not line.startswith("#"):
                 yield first, line.split() if line.split()[0] in ("host", "main", "router") else line.partition("#")[0].split()
@@ -175,11 +176,11 @@ class Meaning:
                 whole, digits = divmod(int(Fraction(word.rstrip("%")) * 10**16), 10**18)
                 result += f" plr {whole}.{digits:018d}"
             else:
-                alone = before not in OPTIONS
+                alone = before not in OPTION_WORDS
                 result += (
                     f" {'bw ' if alone and RATE.fullmatch(word) else 'delay ' if alone and DELAY.fullmatch(word) else ''}{word}"
                 )
-            before = "" if before in (*OPTIONS[:-1], "loss", *OF_HOST) else word
+            before = "" if before in (*OPTION_WORDS[:-1], "loss", *OF_HOST) else word
         return result
 
     def link(self, where: str, ends: tuple[str, str], words: list[str]) -> None:
@@ -193,8 +194,8 @@ class Meaning:
         is_main = base == "main" or (not plus and self.main is not None)
         return ns_of(time) + ((self.main or 0) if is_main else 0)
 
-    def add(self, where: str, moment: int, line: str = "", kind: str = "line", end: int = NEVER, **more: object) -> None:
-        self.events.append(Event(moment, len(self.events), end, where, kind, line=line, **more))  # type: ignore[arg-type]
+    def add(self, where: str, moment: int, line: str = "", kind: str = "line", end: int = FOR_EVER, **more: object) -> None:
+        self.events.append(LineEvent(moment, len(self.events), end, where, kind, line=line, **more))  # type: ignore[arg-type]
 
     def at(self, where: str, word: str, text: str, doubt: int = 0) -> None:
         """Adds an `at` line, or a request from the control socket with its doubt. Unread: the seed drew another line."""
@@ -208,24 +209,24 @@ class Meaning:
         start, name = self.moment(word), words[0]
         if name in ("cut", "heal"):
             self.cut(where, start, words, doubt)
-        elif name in (*ENDS, *ENDS.values(), "skew"):
-            length = ns_of(words[2]) if words[2:] and name in ENDS else 0 if name == "crash" else NEVER - start
+        elif name in (*ACT_ENDS, *ACT_ENDS.values(), "skew"):
+            length = ns_of(words[2]) if words[2:] and name in ACT_ENDS else 0 if name == "crash" else FOR_EVER - start
             self.add(where, start, kind=name, end=start + length, host=words[1], doubt=doubt)
         else:
-            self.of_link(where, start, *self.between(words), doubt)
+            self.link_change(where, start, *self.between(words), doubt)
 
     def cut(self, where: str, start: int, words: list[str], doubt: int) -> None:
         """Adds a cut or a heal: the pipe loses all packets from one end."""
         kind, host, *rest = words
         rest, port = without_port(rest)
-        end = start + ns_of(rest.pop()) if rest and rest[-1] not in (*self.hosts, "up", "down") else NEVER
+        end = start + ns_of(rest.pop()) if rest and rest[-1] not in (*self.hosts, "up", "down") else FOR_EVER
         side = rest.pop() if rest and rest[-1] not in self.hosts else ""
         for pipe, (sender, receiver) in enumerate((way for ends in self.links for way in (ends, ends[::-1])), 1):
             if host in (sender, receiver) and side != ("down" if sender == host else "up"):
                 if not rest or {sender, receiver} - {host} <= set(rest[1:]):
                     self.add(where, start, kind=kind, end=end, target=("pipe", pipe), port=port, doubt=doubt)
 
-    def of_link(self, where: str, start: int, link: int, is_back: int, words: list[str], doubt: int) -> None:
+    def link_change(self, where: str, start: int, link: int, is_back: int, words: list[str], doubt: int) -> None:
         side = words.pop(0) if words[0] in ("up", "down") else ""
         ways = [0, 1] if not side else [(side == "down") ^ is_back]
         pipes = [2 * link + 1 + way for way in ways]
@@ -253,11 +254,13 @@ class Meaning:
             for key in ("every", "for", "from", "until")
             if key in words
         }
-        hosts, last = words[words.index("of") + 1 :] if "of" in words else list(self.hosts), -1
+        hosts = words[words.index("of") + 1 :] if "of" in words else list(self.hosts)
+        last = -1
         until = times.get("until", [3600 * 10**9])[-1]
         while self.drawn:
             _, at, kind, *rest = self.drawn[0].split()
-            moment, span = ns_of(at), times["every"] if last >= 0 else times.get("from", times["every"])
+            moment = ns_of(at)
+            span = times["every"] if last >= 0 else times.get("from", times["every"])
             is_next = span[0] <= moment - max(last, 0) <= span[-1] or moment == last
             is_fit = kind == NEMESES.get(words[0], "cut") and set(rest[:-1]) - {"from"} <= set(hosts) | (
                 {*self.hosts} if kind == "cut" else set()
@@ -271,7 +274,7 @@ class Meaning:
         """Spells all lines like dummynet does, with the loss of each link whose losses a model decides."""
         lines = [number for number in range(self.spelt, len(self.events)) if self.events[number].kind == "line"]
         self.spelt = len(self.events)
-        for number, text in zip(lines, spelled([self.events[number].line for number in lines])):
+        for number, text in zip(lines, dummynet_lines([self.events[number].line for number in lines])):
             target, options = options_of(text)
             self.own_loss |= {number} if " plr " in self.events[number].line else set()
             pipe = target[1] if target[0] == "pipe" else int((options or {}).get("pipe", 0))

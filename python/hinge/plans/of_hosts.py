@@ -8,13 +8,13 @@ from collections import defaultdict, deque
 from heapq import heappop, heappush
 from typing import Iterator, NamedTuple, Optional, Tuple
 
-from hinge.plans.meaning import ENDS, NEVER, SECOND, Event, Meaning
+from hinge.plans.meaning import ACT_ENDS, FOR_EVER, SECOND, LineEvent, Meaning
 
 MS = 10**6
 Key = Tuple[str, str]  # a host and the word of an act
 Place = Tuple[int, int]  # a moment and the order of the lines
-Act = Tuple[int, int, str, str]  # when it was done, and should be, its host and its words
-NO_ACT: Act = (0, 0, "", "")
+DoneAct = Tuple[int, int, str, str]  # when it was done, and should be, its host and its words
+NO_ACT: DoneAct = (0, 0, "", "")
 UDP = "17"  # the protocol of what no kernel sends by itself
 
 
@@ -35,7 +35,7 @@ class OfHosts:
         self.meaning, self.limit, self.now = meaning, limit, 0
         self.faults: list[Broken] = []
         self.remarks: list[str] = []
-        self.stops = defaultdict[Key, list[Event]](list)  # and kills, in order, up to the first packet that shows whether they hold
+        self.stops = defaultdict[Key, list[LineEvent]](list)  # and kills, in order, up to the first packet that shows if they hold
         self.ends_of = defaultdict[Key, list[int]](list)  # the moments of what ends them, by its word
         self.acts: list[tuple[int, str, str]] = []  # as they were told
         self.places = defaultdict[Key, deque[int]](deque)  # of acts in that list
@@ -54,11 +54,11 @@ class OfHosts:
             self.fronts.add(front)
             self.faults.append(Broken(moment, text))
 
-    def note_acts(self, events: list[Event]) -> None:
+    def note_acts(self, events: list[LineEvent]) -> None:
         for one in events:
-            if one.kind in ENDS:
+            if one.kind in ACT_ENDS:
                 heappush(self.stops[one.host, one.kind], one)
-            elif one.kind in ENDS.values():
+            elif one.kind in ACT_ENDS.values():
                 insort(self.ends_of[one.host, one.kind], one.moment)
 
     def from_stopped(self, moment: int, packet: list[str]) -> None:
@@ -67,7 +67,7 @@ class OfHosts:
         fault.
         """
         host = self.own.get(packet[0], "") if packet[2] == UDP and not self.ends else ""
-        for kind in ENDS if self.tells_entries else ("stop",):
+        for kind in ACT_ENDS if self.tells_entries else ("stop",):
             faults = self.stops[host, kind]
             while faults and self.has_begun(faults[0], moment):
                 fault = heappop(faults)
@@ -75,18 +75,18 @@ class OfHosts:
                 if moment < fault.end - MS and not self.goes_on(fault, moment) and not may_run:
                     self.fault(moment, f"{fault.where} doesn't hold: at {seconds(moment)} {host} sends to {packet[1]}")
 
-    def has_begun(self, fault: Event, moment: int) -> bool:
+    def has_begun(self, fault: LineEvent, moment: int) -> bool:
         """Returns whether a fault's act was done before a moment, by more than the limit."""
         latest = self.latest[fault.host, fault.kind]
         first = bisect_left(latest, fault.moment - MS)
         return first < len(latest) and max(latest[first], fault.moment) + self.limit < moment
 
-    def goes_on(self, fault: Event, moment: int) -> bool:
+    def goes_on(self, fault: LineEvent, moment: int) -> bool:
         """Returns whether a line has ended a fault."""
-        ends = self.ends_of[fault.host, ENDS[fault.kind]]
+        ends = self.ends_of[fault.host, ACT_ENDS[fault.kind]]
         return bisect_right(ends, fault.moment) < bisect_right(ends, moment)
 
-    def expected(self) -> Iterator[tuple[int, str, str, Event]]:
+    def expected(self) -> Iterator[tuple[int, str, str, LineEvent]]:
         """Yields the acts that a transcript must contain, with their moments. A fault's end counts only when no other fault of the
         same kind continues."""
         acts = sorted(one for one in self.meaning.events if one.host and one.kind != "skew")
@@ -94,20 +94,20 @@ class OfHosts:
         latest = defaultdict[Key, list[Place]](list)  # the ends of the faults up to each of `same`, behind the last of `ends`
         for one in acts:
             ends[one.host, one.kind].append(one[:2])
-            if word := ENDS.get(one.kind):
+            if word := ACT_ENDS.get(one.kind):
                 key = one.host, word
                 goes_on = same[key] and (not ends[key] or ends[key][-1] < same[key][-1])
                 latest[key].append(max([(one.end, one.place), *latest[key][-1:]]) if goes_on else (one.end, one.place))
                 same[key].append(one[:2])
         for one in acts:
             yield one.moment, one.kind, one.host, one
-            until, key = (one.end, one.place), (one.host, ENDS.get(one.kind, ""))
-            if one.kind in ENDS and one.end < NEVER:
+            until, key = (one.end, one.place), (one.host, ACT_ENDS.get(one.kind, ""))
+            if one.kind in ACT_ENDS and one.end < FOR_EVER:
                 before = bisect_left(ends[key], until)
                 last = ends[key][before - 1] if before else (-1, -1)
                 behind = bisect_left(same[key], until)
                 if last <= one[:2] and (not behind or latest[key][behind - 1] <= until):
-                    yield one.end, ENDS[one.kind], one.host, one
+                    yield one.end, ACT_ENDS[one.kind], one.host, one
 
     def note_act(self, moment: int, word: str, host: str) -> None:
         """Notes an act as it was told. After the end, stopped processes continue, which no line requests."""
@@ -121,7 +121,7 @@ class OfHosts:
         self.places[host, word].append(len(self.acts))
         self.acts.append((moment, word, host))
 
-    def requested(self) -> Iterator[tuple[int, str, str, Event, Optional[int]]]:
+    def requested(self) -> Iterator[tuple[int, str, str, LineEvent, Optional[int]]]:
         """Yields the requested acts in order, each with the first act that can fulfil the request."""
         for moment, word, host, event in sorted(self.expected(), key=lambda one: (one[0], one[3].place)):
             places = self.places[host, word]
@@ -132,7 +132,7 @@ class OfHosts:
     def judge_acts(self) -> None:
         """Looks at each act that a line requests. An act of the same moment on another host may come before a restart, which takes longer."""
         begun, done, at = dict[int, int](), set[int](), 0
-        before, latest = dict[str, Act](), NO_ACT  # of this moment, restarts by their hosts, and of all earlier ones
+        before, latest = dict[str, DoneAct](), NO_ACT  # of this moment, restarts by their hosts, and of all earlier ones
         for moment, word, host, event, place in self.requested():
             if place is None:
                 if moment + self.limit < self.now:

@@ -9,16 +9,16 @@ from typing import Optional
 
 from hinge.program import asked_of_dummynet
 
-OPTIONS = ("bw", "delay", "queue", "plr", "weight", "buckets", "pipe", "mask")
+OPTION_WORDS = ("bw", "delay", "queue", "plr", "weight", "buckets", "pipe", "mask")
 Target = tuple[str, int]  # pipe or queue, and its number
-Options = Optional[dict[str, str]]  # of a line; none where it deletes
+LineOptions = Optional[dict[str, str]]  # of a line; none where it deletes
 
 
 class Unread(ValueError):
     """Raised for lines that this module can't read, so that the net isn't judged."""
 
 
-def spelled(lines: list[str]) -> list[str]:
+def dummynet_lines(lines: list[str]) -> list[str]:
     """Returns configuration lines in dummynet's spelling. Unread: dummynet refuses one."""
     answer = asked_of_dummynet("live", data="".join(f" {line}\n" for line in lines).encode())
     found = re.findall(r"^c,0,configure,(.*)$", answer.text, re.M)
@@ -28,14 +28,14 @@ def spelled(lines: list[str]) -> list[str]:
 
 
 @lru_cache(1 << 16)
-def options_of(line: str) -> tuple[Target, Options]:
+def options_of(line: str) -> tuple[Target, LineOptions]:
     """Returns the target and the options of a line in dummynet's spelling."""
     words = line.split()
     if words[1] == "delete":
         return (words[0], int(words[2])), None
     options: dict[str, str] = {}
     for word in words[3:]:
-        if word in OPTIONS:
+        if word in OPTION_WORDS:
             options[last:=word] = ""
         else:
             options[last] = f"{options[last]} {word}".strip()

@@ -18,7 +18,13 @@ from hinge.program import packets
 from hinge.replays.record_lines import rows_of, without_quotes
 
 GREATEST = 2**63 - 1  # of a number of 63 bits
-QUOTED, FAULT, SYSTEM, BAD_HEADER, BAD_ROW, TOO_LONG = 3, 4, (5, 6), 8, 9, 10  # the statuses with which it ends
+# the statuses with which it ends
+QUOTED = 3
+FAULT = 4
+SYSTEM = (5, 6)
+BAD_HEADER = 8
+BAD_ROW = 9
+TOO_LONG = 10
 EVENTS = NONE, FULL, LOST, HELD, OUT = range(5)
 EVENT_NAMES = ("none", "full", "lost", "held", "out")
 KINDS = ("pipe", "queue")
@@ -41,13 +47,8 @@ def is_address(text: str) -> bool:
 NUMBER, FIELD = number_to(GREATEST), number_to(GREATEST, may_be_empty=True)
 PACKET_FIELDS: dict[str, OfWord] = {
     **{"moment": NUMBER, "target": lambda text: text in KINDS, "number": NUMBER, "src": is_address, "dst": is_address},
-    **{
-        "proto": number_to(255),
-        "sport": number_to(65535),
-        "dport": number_to(65535),
-        "len": NUMBER,
-        "word": number_to(2**32 - 1),
-    },
+    **{"proto": number_to(255), "sport": number_to(65535), "dport": number_to(65535)},
+    **{"len": NUMBER, "word": number_to(2**32 - 1)},
 }
 REPORT_FIELDS: dict[str, OfWord] = {
     **{"event": lambda text: text in EVENT_NAMES, "row": NUMBER, "flow": number_to(2**31 - 1, True), "packet": FIELD},
@@ -129,7 +130,8 @@ class Quoted(Exception):
 @contextmanager
 def asked(source: BinaryIO, words: Iterable[str], refuse: Callable[[int, str], object]) -> Iterator[Answer]:
     """Yields the program's answer about a file. An answer that was read whole counts if the program ended well."""
-    with begun([packets(), "columns", *words], stdin=source, stdout=PIPE, stderr=PIPE) as program:
+    large = {**os.environ, "GLIBC_TUNABLES": "glibc.malloc.hugetlb=1"}  # pages, with which long tables are read faster
+    with begun([packets(), "columns", *words], stdin=source, stdout=PIPE, stderr=PIPE, env=large) as program:
         try:
             yield Answer(program, refuse)
             if not cast(Any, program.stdout).read(1) and (status := program.wait()):
@@ -208,7 +210,8 @@ def read_rows(path: str) -> Rows:
 
     def take(answer: Answer) -> Rows:
         count, targets, tuples = answer.numbers(3)
-        kinds, five = answer.targets(targets), Tuples(answer.numbers(2 * tuples))
+        kinds = answer.targets(targets)
+        five = Tuples(answer.numbers(2 * tuples))
         return Rows(answer.columns(count, PACKET_COLUMNS), kinds, five)
 
     return read_columns(path, ("packets",), PACKET_FIELDS, take, os.path.basename(path))
@@ -289,10 +292,12 @@ def read_told(path: str, kind: str, widths: Widths) -> Told:
 
     def take(answer: Answer) -> Told:
         count, targets, tuples, changes, remarks, records, first, last_line, is_whole = answer.numbers(9)
-        kinds, five = answer.targets(targets), Tuples(answer.numbers(2 * tuples))
+        kinds = answer.targets(targets)
+        five = Tuples(answer.numbers(2 * tuples))
         lines = str(answer.bytes(changes), "utf-8", "replace").split("\n")[:-1]
         told = [(int(record), int(moment), text) for record, moment, text in (line.split(",", 2) for line in lines)]
-        text, is_steady = bytes(answer.bytes(remarks)), first < 0 or all(record < first for record, _, _ in told)
+        text = bytes(answer.bytes(remarks))
+        is_steady = first < 0 or all(record < first for record, _, _ in told)
         is_short = kind == "history" and is_steady and all(one == "queue" or number <= LAST_OF_LINKS for one, number in kinds)
         columns = answer.columns(count, dict(islice(widths.items(), len(widths) - 2 * is_short)))
         return Told(Rows(columns, kinds, five), told, text, records, is_steady, last_line, bool(is_whole))

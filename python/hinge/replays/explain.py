@@ -2,17 +2,20 @@
 
 from __future__ import annotations
 
+from bisect import bisect_left, bisect_right
 from dataclasses import dataclass
-from itertools import chain, islice, takewhile
+from itertools import chain
 from typing import Callable, Optional
 
+from hinge.arguments import TABLE_FLOWS
 from hinge.command import ROWS, Fault
 from hinge.configurations.configured import Pipe, Queue, Setting
-from hinge.lazy import few as np
+from hinge.lazy import Integers, few as np
 from hinge.loss import KEPT, LOST as LOST_WORD
-from hinge.replays.columns import GREATEST
+from hinge.replays.columns import GREATEST, Lazily
+from hinge.replays.groups import Groups
 from hinge.replays.link_order import LinkOrder, WaitedFor
-from hinge.replays.links import BITS_NS, UNKNOWN, Parts, Spell, bandwidth_of, delay_of
+from hinge.replays.links import BITS_NS, UNKNOWN, Parts, bandwidth_of, delay_of, loss_of
 from hinge.replays.replay import FULL, HELD, LOST, NONE, OUT
 from hinge.replays.units import ms, packets, rows, seconds
 
@@ -31,7 +34,9 @@ class Explainer:
     def __post_init__(self) -> None:
         self.replay = self.parts.replay
         self.packets = self.replay.packets
-        self.order, self.is_history = LinkOrder(self.parts), self.parts.configuration.path == self.replay.path
+        self.known_turns: dict[tuple[tuple[str, int], Callable[[Setting], int], int], list[int]] = {}
+        self.order = LinkOrder(self.parts)
+        self.is_history = self.parts.configuration.path == self.replay.path
         if (self.replay.at != np.maximum.accumulate(self.packets.moment)).any():
             why = "its rows didn't come in their order, as those of several callers: no queue can be told"
             raise Fault(f"{self.replay.path}: {why}", ROWS)
@@ -48,35 +53,34 @@ class Explainer:
 
     # ---- what every packet has ----
 
-    def target(self, place: int) -> tuple[str, int]:
-        return self.packets.targets[int(self.packets.target[place])]
-
     def own(self, place: int) -> Pipe | Queue:
         """Returns the pipe or queue of a row with a target."""
-        own = self.spell(self.parts.own[place])
-        if own is None or own.setting is None:
+        number = int(self.parts.own[place])
+        setting = None if number == UNKNOWN else self.parts.configuration.spells[number].setting
+        if setting is None:
             raise self.parts.another(f"row {place + 1} would have had no target")
-        return own.setting
+        return setting
 
-    def spell(self, number: int) -> Optional[Spell]:
-        return None if number == UNKNOWN else self.parts.configuration.spells[number]
+    def turns(self, number: int, value: Callable[[Setting], int]) -> list[int]:
+        """Returns the places where the value changes among this target's spells. Other spells in outages don't count."""
+        spells, outages = self.parts.configuration.spells, self.parts.of_outages
+        key = spells[number].target, value, number if number in outages else UNKNOWN
+        if key not in self.known_turns:
+            own = enumerate(self.parts.configuration.by_target[key[0]])
+            values = [
+                (at, (one := spells[place].setting) and value(one)) for at, place in own if place == number or place not in outages
+            ]
+            self.known_turns[key] = [at for (at, one), (_, before) in zip(values, [(0, UNKNOWN), *values]) if one != before]
+        return self.known_turns[key]
 
     def time_of(self, number: int, value: Callable[[Setting], int]) -> tuple[Optional[int], Optional[int]]:
         """From when to when a pipe or queue had the value of this spell; None where that was from the beginning, or to the end."""
-        spells, places = (
-            self.parts.configuration.spells,
-            self.parts.configuration.by_target[self.parts.configuration.spells[number].target],
-        )
-        at, wanted = places.index(number), value(spells[number].setting)  # type: ignore[arg-type]
-
-        def is_same(place: int) -> bool:
-            setting = spells[place].setting
-            return place in self.parts.of_outages or setting is not None and value(setting) == wanted
-
-        first = at - sum(1 for _ in takewhile(is_same, reversed(places[:at])))
-        first += sum(1 for _ in takewhile(self.parts.of_outages.__contains__, places[first:at]))
-        end = at + 1 + sum(1 for _ in takewhile(is_same, places[at + 1 :]))
-        return spells[places[first]].moment if first else None, spells[places[end]].moment if end < len(places) else None
+        spells = self.parts.configuration.spells
+        turns = self.turns(number, value)
+        places = self.parts.configuration.by_target[spells[number].target]
+        at = bisect_right(turns, bisect_left(places, number))
+        begin, ends = turns[at - 1], turns[at : at + 1]
+        return spells[places[begin]].moment if begin else None, spells[places[ends[0]]].moment if ends else None
 
     def while_so(self, number: int, value: Callable[[Setting], int]) -> str:
         """Describes the same in words; an empty text if the value never changed."""
@@ -91,7 +95,7 @@ class Explainer:
     def shades(self, end: int) -> set[tuple[int, int]]:
         """From when to when a pipe lost all packets, which it didn't from the beginning, or held all."""
         lossy = [
-            self.time_of(number, lambda setting: setting.loss)
+            self.time_of(number, loss_of)
             for number, spell in enumerate(self.parts.configuration.spells)
             if spell.setting is not None and spell.setting.loss == LOSS_PARTS
         ]
@@ -105,13 +109,14 @@ class Explainer:
         return f"an outage, in which pipe {pipe} held packets from {seconds(start)} to {seconds(start + int(self.parts.transmission[place]))}"
 
     def target_name(self, place: int) -> str:
-        kind, number = self.target(place)
+        kind, number = self.packets.targets[int(self.packets.target[place])]
         return f"{kind} {number}"
 
     def sent(self, place: int) -> str:
         moment, at = int(self.packets.moment[place]), int(self.replay.at[place])
         late = f" (its own moment is {seconds(moment)}, and a row before it had come later)" if moment < at else ""
-        name, length = self.packets.tuple_name(self.packets.five_tuple[place]), int(self.packets.length[place])
+        name = self.packets.tuple_name(self.packets.five_tuple[place])
+        length = int(self.packets.length[place])
         return f"Row {place + 1} ({name}, {length:,} bytes) was sent to {self.target_name(place)} at {seconds(at)}{late}."
 
     def link_name(self, place: int) -> str:
@@ -131,16 +136,17 @@ class Explainer:
     def delivered(self, place: int) -> str:
         """Waiting, transmission and delay, and their sum."""
         parts = self.parts
-        sending, (delay, behind) = int(parts.transmission[place]), map(int, chain(*parts.delay_and_behind(slice(place, place + 1))))
+        sending = int(parts.transmission[place])
+        (delay, behind) = map(int, chain(*parts.delay_and_behind(slice(place, place + 1))))
         at, start, due = (int(column[place]) for column in (self.replay.at, self.replay.start, self.replay.due))
         wait, took = start - at, due - at
         parts_of_it = f"{ms(took)} = {ms(wait)} waiting + {ms(sending)} transmission + {ms(delay)} delay"
         in_force = self.while_so(int(parts.carrier[place]), delay_of)
-        before = (
-            f"{self.waiting(place, wait)} {self.sending(place)} The link's delay was {ms(delay)}{', ' * bool(in_force)}{in_force}."
-        )
+        own_delay = f"The link's delay was {ms(delay)}{', ' if in_force else ''}{in_force}."
+        before = f"{self.waiting(place, wait)} {self.sending(place)} {own_delay}"
         if behind:
-            before, parts_of_it = f"{before} {self.stayed_behind(place, behind)}", f"{parts_of_it} + {ms(behind)} behind another"
+            before = f"{before} {self.stayed_behind(place, behind)}"
+            parts_of_it = f"{parts_of_it} + {ms(behind)} behind another"
         further = self.order.further.get(place) if self.is_history else None
         goes_on = "" if further is None else f" It went on as row {further + 1}, for its jitter or a delay of its own."
         flip = self.replay.flips.get(int(self.replay.packet[place]))
@@ -162,38 +168,52 @@ class Explainer:
         length, took = int(self.packets.length[place]), int(self.parts.transmission[place])
         rounding = "" if length * BITS_NS % bandwidth == 0 else ", rounded up to whole ns"
         in_force = self.while_so(carrier, bandwidth_of)
-        alone = " to " in in_force and np.count_nonzero(self.replay.is_out & (self.parts.carrier == carrier)) == 1
-        whose = f", {in_force}{' for this packet alone, as a trace or an outage has it' * bool(alone)}" if in_force else ""
+        alone = " to " in in_force and self.parts.carried[carrier + 1] == 1
+        whose = f", {in_force}{' for this packet alone, as a trace or an outage has it' if alone else ''}" if in_force else ""
         return f"Its transmission took {ms(took)} ({length:,} bytes at {bandwidth:,} bit/s{rounding}{whose})."
 
     def waiting(self, place: int, delay: int) -> str:
         if delay == 0:
             return "The link was free, so its transmission began at once."
         wait = self.order.wait(place)
-        if sum(wait.costs) != delay:
-            raise self.parts.another(f"row {place + 1} would have waited {ms(sum(wait.costs))}")
+        if (total := int(wait.costs.sum())) != delay:
+            raise self.parts.another(f"row {place + 1} would have waited {ms(total)}")
         return f"It waited {ms(delay)} for {self.link_name(place)}: {'; '.join(self.waited_for(place, wait))}."
 
     def waited_for(self, place: int, wait: WaitedFor) -> list[str]:
-        """Returns the packets that a packet waited for, by flow, with each group's cost in time."""
-        lines: list[str] = []
+        """Returns a line with the cost in time for each flow ahead of a packet; a last line sums up small flows among many."""
+        lines = list[str]()
+        places = wait.places
+        costs = wait.costs
+        own = int(self.replay.flow[place])
         if wait.first_was_sending:
-            first = int(wait.places[0])
+            first = int(places[0])
             whose = f" of {self.flow_name(first)}" if self.parts.is_shared[place] else ""
             before = f"row {first + 1}{whose}, which was under transmission, had been sent"
-            lines.append(f"{ms(wait.costs[0])} until {f'the end of {self.outage(first)}' if self.is_outage(first) else before}")
-        columns = (column[wait.places].tolist() for column in (self.packets.five_tuple, self.packets.word, self.replay.flow))
-        waited, flows = zip(wait.places.tolist(), wait.costs, *columns), dict[int, dict[int, int]]()
-        for one, cost, five_tuple, word, flow in islice(waited, int(wait.first_was_sending), None):
+            lines.append(f"{ms(int(costs[0]))} until {f'the end of {self.outage(first)}' if self.is_outage(first) else before}")
+            places, costs = places[1:], costs[1:]
+        places, costs, others = self.largest(place, places, costs)
+        columns = (column[places].tolist() for column in (self.packets.five_tuple, self.packets.word, self.replay.flow))
+        flows: dict[int, dict[int, int]] = {}
+        for one, cost, five_tuple, word, flow in zip(places.tolist(), costs.tolist(), *columns):
             if five_tuple == self.parts.of_nobody and word == KEPT:
                 lines.append(f"{ms(cost)} for {self.outage(one)}")
             else:
                 flows.setdefault(flow, {})[one] = cost
-        own = int(self.replay.flow[place])
-        return [
-            *lines,
-            *(self.group(place, flow == own, flows[flow]) for flow in sorted(flows, key=lambda flow: (flow != own, flow))),
-        ]
+        numbers = sorted(flows, key=lambda flow: (flow != own, flow))
+        return [*lines, *(self.group(place, flow == own, flows[flow]) for flow in numbers), *others]
+
+    def largest(self, place: int, places: Integers, costs: Integers) -> tuple[Integers, Integers, list[str]]:
+        """Returns the packets and costs for this flow and the largest flows, as many as a table lists, and a line about the rest."""
+        if len(places) <= TABLE_FLOWS or not self.parts.is_shared[place]:
+            return places, costs, []
+        flow, own = self.replay.flow[places], self.replay.flow[place]
+        flows = Groups(flow, Lazily(int(flow.max()) + 1, str)).largest(np.where(flow == own, GREATEST, costs), TABLE_FLOWS)
+        if not flows.has_rest:
+            return places, costs, []
+        is_told = flows.of < TABLE_FLOWS
+        rest = costs[~is_told]
+        return places[is_told], costs[is_told], [f"{ms(int(rest.sum()))} for {packets(len(rest))} of {flows.names[-1]}"]
 
     def group(self, place: int, is_own: bool, costs: dict[int, int]) -> str:
         """Describes one flow's packets ahead of a packet, each with its cost."""
@@ -211,18 +231,19 @@ class Explainer:
         word, own = int(self.packets.word[place]), self.own(place)
         if word & LOW_31_BITS >= own.loss:
             raise self.parts.another(f"row {place + 1} would not have been lost")
-        in_force = self.while_so(int(self.parts.own[place]), lambda setting: setting.loss)
+        in_force = self.while_so(int(self.parts.own[place]), loss_of)
         if own.loss == LOSS_PARTS and in_force:
             return f"It was lost in a cut or a lossy outage: {self.target_name(place)} lost all packets {in_force.removeprefix('in force ')}."
         if word & LOW_31_BITS == LOST_WORD and own.loss == LOSS_PARTS // 2:
             return f"It was lost by a model of losses or a list of them, since the word that it was given is {word}."
         rate = f"{own.loss:,}, which is the rate of {own.loss / LOSS_PARTS:.6g} in parts of 2^31"
         bits = f"the low 31 bits of its random word {word} are {word & LOW_31_BITS:,}, less than {rate}"
-        return f"It was lost by the loss rate of {self.target_name(place)}{', ' * bool(in_force)}{in_force}: {bits}."
+        return f"It was lost by the loss rate of {self.target_name(place)}{', ' if in_force else ''}{in_force}: {bits}."
 
     def full(self, place: int) -> str:
         """Describes the full queue: its packets, and the moment at which there was room again."""
-        backlog, limit = self.order.backlog(place), self.own(place).limit
+        backlog = self.order.backlog(place)
+        limit = self.own(place).limit
         bytes_up_to = np.cumsum(self.packets.length[backlog])
         total = int(bytes_up_to[-1]) if len(backlog) else 0
         if limit.slots is not None:
@@ -235,11 +256,9 @@ class Explainer:
         if too_many < 0:
             raise self.parts.another(f"row {place + 1} would have found room")
         why = f"The queue of its flow {self.replay.flow[place]} was full, so it was dropped"
-        unsure = "at most " * bool(self.parts.is_shared[place] and (self.replay.event[backlog] == HELD).any())
-        backlog_text = (
-            f"{unsure}{packets(len(backlog))} waited there ({rows((backlog + 1).tolist())}), {total:,} bytes in all, {options}"
-        )
-        return f"{why}: {backlog_text}. {self.room_again(place, int(backlog[leaver]))}"
+        unsure = "at most " if self.parts.is_shared[place] and (self.replay.event[backlog] == HELD).any() else ""
+        waited = f"{unsure}{packets(len(backlog))} waited there ({rows((backlog + 1).tolist())}), {total:,} bytes in all, {options}"
+        return f"{why}: {waited}. {self.room_again(place, int(backlog[leaver]))}"
 
     def room_again(self, place: int, leaver: int) -> str:
         """Describes the moment at which the queue had room: the start of this packet's transmission."""
@@ -259,23 +278,20 @@ class Explainer:
 
     def held(self, place: int) -> str:
         """Accepted, and on its way at the end, or discarded by a delete."""
-        queue, connection = (
-            self.order.accepted_of(int(self.replay.flow[place])),
-            f"It was accepted as packet {self.replay.packet[place]}",
-        )
+        queue = self.order.accepted_of(int(self.replay.flow[place]))
+        connection = f"It was accepted as packet {self.replay.packet[place]}"
         number = int(np.searchsorted(queue.places, place))
-        start, ended = (
-            int(queue.starts[number]),
-            "the history ends" if self.is_history else f"the replay ended at {seconds(LAST_MOMENT)} (2^62 ns)",
-        )
+        start = int(queue.starts[number])
+        ended = "the history ends" if self.is_history else f"the replay ended at {seconds(LAST_MOMENT)} (2^62 ns)"
         if queue.gone[number] != GREATEST:
-            unsure = ", unless its transmission had begun" * bool(self.parts.is_shared[place])
+            unsure = ", unless its transmission had begun" if self.parts.is_shared[place] else ""
             spell = next(one for one in self.parts.configuration.spells if one.record == queue.gone[number])
             return f"{connection}, and waited when `{spell.target[0]} delete {spell.target[1]}` discarded it at {seconds(spell.moment)}{unsure}."
         if start == GREATEST:
             return f"{connection}, and had not left {self.link_name(place)} when {ended}."
         one = self.order.times_of_held(place, start)
-        wait, before = start - int(self.replay.at[place]), ", if no packet before it is later" * self.is_history
+        wait = start - int(self.replay.at[place])
+        before = ", if no packet before it is later" if self.is_history else ""
         due = start + one.transmission + one.delay
         took = f"{ms(due - int(self.replay.at[place]))} = {ms(wait)} waiting + {ms(one.transmission)} transmission + {ms(one.delay)} delay"
-        return f"{connection}, and would take {took}. It would leave at {seconds(due)}{before}, and {ended}{' before that' * self.is_history}."
+        return f"{connection}, and would take {took}. It would leave at {seconds(due)}{before}, and {ended}{' before that' if self.is_history else ''}."

@@ -45,14 +45,14 @@ class Groups:
 
     def largest(self, sizes: Integers, most: int) -> Groups:
         """Returns at most `most` groups with the largest sums of sizes, and the rest as one group."""
-        sums = np.bincount(self.of, weights=sizes, minlength=len(self.names))
+        there = np.flatnonzero(np.bincount(self.of))
+        sums = np.bincount(self.of, weights=sizes)[there]
         least = np.partition(sums, [len(sums) - most])[len(sums) - most] if len(sums) > most else -1
         above = np.flatnonzero(sums > least)  # which are few, so that no million of flows is sorted
         part = above[np.argsort(-sums[above], kind="stable")]
-        part = np.append(part, np.flatnonzero(sums == least)[: most - len(above)])
-        is_there = np.bincount(self.of, minlength=len(self.names)) > 0
-        part = part[is_there[part]]
-        number, rest = np.full(len(self.names), len(part)), int(np.count_nonzero(is_there)) - len(part)
+        part = there[np.append(part, np.flatnonzero(sums == least)[: most - len(above)])]
+        number = np.full(len(self.names), len(part))
+        rest = len(there) - len(part)
         number[part] = np.arange(len(part))
         names = [self.names[i] for i in part]
         return Groups(number[self.of], names + ([f"{rest:,} others"] if rest else []), rest > 0, self.of)

@@ -21,7 +21,7 @@ class WaitedFor:
     """
 
     places: Integers
-    costs: list[int]
+    costs: Integers
     first_was_sending: bool
 
 
@@ -77,13 +77,16 @@ class LinkOrder:
     def wait(self, place: int) -> WaitedFor:
         """Returns the packets that a packet waited for before it left."""
         replay, transmission = self.parts.replay, self.parts.transmission
-        link, at = self.sent_on(int(self.parts.link[place])), replay.at[place]
+        link = self.sent_on(int(self.parts.link[place]))
+        at = replay.at[place]
         first = int(np.searchsorted(link.starts, at, side="right"))
         own = int(np.searchsorted(link.starts, replay.start[place], side="left"))
         rest = link.starts[first - 1] + transmission[link.places[first - 1]] - at if first else 0
         places = link.places[first - int(rest > 0) : own]
-        costs = transmission[places].tolist()
-        return WaitedFor(places, [int(rest), *costs[1:]] if rest > 0 else costs, bool(rest > 0))
+        costs = transmission[places]
+        if rest > 0:
+            costs[0] = rest
+        return WaitedFor(places, costs, bool(rest > 0))
 
     def before(self, place: int) -> int:
         """Returns the packet that left its link before this packet, or UNKNOWN."""
@@ -102,7 +105,8 @@ class LinkOrder:
 
     def times_of_held(self, place: int, free: int) -> Times:
         """Those of a packet that hadn't left, on a link of one flow that is free from a moment on."""
-        parts, start = self.parts, max(free, int(self.parts.replay.at[place]))
+        parts = self.parts
+        start = max(free, int(self.parts.replay.at[place]))
         spell = parts.carrier[place : place + 1]
         if start > parts.replay.at[place]:
             spell = parts.configuration.places(("pipe", int(parts.pipe[place])), np.array([start]), MOMENT)
@@ -114,9 +118,12 @@ class LinkOrder:
         if flow not in self.flows:
             replay, parts = self.parts.replay, self.parts
             places = np.flatnonzero((replay.is_out | (replay.event == HELD)) & (replay.flow == flow))
-            starts, gone, free = replay.start[places], np.full(len(places), GREATEST), 0
+            starts = replay.start[places]
+            gone = np.full(len(places), GREATEST)
+            free = 0
             for number in np.flatnonzero(replay.event[places] == HELD).tolist():
-                place, before = int(places[number]), int(places[number - 1]) if number else None
+                place = int(places[number])
+                before = int(places[number - 1]) if number else None
                 if before is not None and replay.is_out[before]:
                     free = int(replay.start[before] + parts.transmission[before])
                 record, moment = self.deleted(place)
@@ -129,9 +136,11 @@ class LinkOrder:
 
     def backlog(self, place: int) -> Integers:
         """Returns the places of the packets in the flow's queue when a row arrived."""
-        replay, queue = self.parts.replay, self.accepted_of(int(self.parts.replay.flow[place]))
+        replay = self.parts.replay
+        queue = self.accepted_of(int(self.parts.replay.flow[place]))
         # those before it, of which the packets in front had left
-        first, end = int(np.searchsorted(queue.latest, replay.at[place], side="right")), int(np.searchsorted(queue.places, place))
+        first = int(np.searchsorted(queue.latest, replay.at[place], side="right"))
+        end = int(np.searchsorted(queue.places, place))
         near = slice(first, max(first, end))
         waited = (queue.starts[near] > replay.at[place]) & (queue.gone[near] > replay.submitted[place])
         places: Integers = queue.places[near][waited]

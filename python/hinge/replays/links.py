@@ -72,10 +72,16 @@ class Configuration:
         found: Integers = table[np.searchsorted(begins, before, side="left")]
         return found
 
+    @cached_property
+    def tables(self) -> dict[Callable[[Setting], int], Integers]:
+        """The spells' values, as far as a caller needed them."""
+        return {}
+
     def values(self, places: Integers, value: Callable[[Setting], int]) -> Integers:
         """Returns a value from the spell at each place, 0 for UNKNOWN."""
-        table = np.array([*(value(spell.setting) if spell.setting else 0 for spell in self.spells), 0], np.int64)
-        found: Integers = table[places]
+        if value not in self.tables:
+            self.tables[value] = np.array([*(value(spell.setting) if spell.setting else 0 for spell in self.spells), 0], np.int64)
+        found: Integers = self.tables[value][places]
         return found
 
 
@@ -98,6 +104,10 @@ def bandwidth_of(setting: Setting) -> int:
 def delay_of(setting: Setting) -> int:
     """In ns."""
     return setting.delay * NS_PER_MS if isinstance(setting, Pipe) else 0
+
+
+def loss_of(setting: Setting) -> int:
+    return setting.loss
 
 
 @dataclass(frozen=True)
@@ -124,13 +134,19 @@ class Parts:
     @cached_property
     def carrier(self) -> Integers:
         """The spell of its pipe during each row's transmission; for a row that didn't leave, the spell at its arrival."""
-        replay, found = self.replay, np.full(len(self.own), UNKNOWN, np.int64)
+        replay = self.replay
+        found = np.full(len(self.own), UNKNOWN, np.int64)
         for number, rows in enumerate(places_of(self.pipe, int(self.pipe.max(initial=0)) + 1)):
             if number and len(start := replay.start[rows]):
                 on_coming = self.configuration.places(("pipe", number), replay.submitted[rows], RECORD)
                 later = self.configuration.places(("pipe", number), start, MOMENT)
                 found[rows] = np.where(start > replay.at[rows], later, on_coming)
         return found
+
+    @cached_property
+    def carried(self) -> Integers:
+        """The number of rows that left in each spell, after those in UNKNOWN."""
+        return np.bincount(self.carrier[self.replay.is_out] + 1)
 
     @cached_property
     def of_nobody(self) -> int:
@@ -155,7 +171,8 @@ class Parts:
 
     def delay_and_behind(self, rows: slice) -> tuple[Integers, Integers]:
         """Returns rows' delays, and the ns for which each row stayed behind the previous row on a link with a shortened delay."""
-        replay, delay = self.replay, self.configuration.values(self.carrier[rows], delay_of)
+        replay = self.replay
+        delay = self.configuration.values(self.carrier[rows], delay_of)
         left = replay.due[rows] - replay.start[rows] - self.transmission[rows] - delay
         return delay, np.where(replay.is_out[rows], left, 0)
 

@@ -52,7 +52,9 @@ def entries(path: Union[str, Path]) -> Iterator[Entry]:
             if record[:2] == "c," or record[:4] == "end,":
                 if call:
                     yield Entry(number, start, row if is_packet(call) else None, call, tuple(reply))
-                call, reply, start = record if record[0] == "c" else "", [], line
+                call = record if record[0] == "c" else ""
+                reply = []
+                start = line
                 number, row = number + bool(call), row + is_packet(call)
             elif record and record[0] != "#":
                 reply.append(record)

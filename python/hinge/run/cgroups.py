@@ -1,7 +1,6 @@
 """Cgroups for hosts, if this user may create cgroups.
 
-All processes in a cgroup are frozen or killed at the same moment, and no program notices through a signal.
-"""
+All processes in a cgroup are frozen or killed at the same moment, and no program notices through a signal."""
 
 from __future__ import annotations
 

@@ -108,7 +108,7 @@ class Changes:
     def cut(self, moment: int, length: int, pipe: int, port: str) -> list[Change]:
         """Returns a cut's lines, for a port if `port` names one. The host counts cuts: a pipe opens when its last cut ends."""
         self.latest += 1
-        end = [Change(moment + length, f"open {pipe} {self.latest}")] * (moment + length < LAST_MOMENT)
+        end = [Change(moment + length, f"open {pipe} {self.latest}")] if moment + length < LAST_MOMENT else []
         return [Change(moment, f"cut {pipe} {self.latest}{port}"), *end]
 
     def held(self) -> dict[int, Iterator[tuple[int, int]]]:

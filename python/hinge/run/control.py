@@ -10,7 +10,7 @@ from typing import Any, Callable, NamedTuple, Optional, Union
 
 from hinge.border.messages import ObeyedLine, Order, Reply
 from hinge.border.serving import PATIENCE, Answer, Client, Server
-from hinge.events.forms import OF_LINKS
+from hinge.events.forms import LINK_WORDS
 from hinge.run.changes import Change, Happening
 from hinge.run.host_lines import LONGEST_LINE, HostLines
 from hinge.run.page import Page
@@ -41,8 +41,7 @@ def nobody(host: str) -> HostRoom:
 class Control:
     """The socket of a run. Create it before the links, and call `serve` to answer clients.
 
-    After that, only this object may use the plan. Requests that change the plan wait for each other.
-    """
+    After that, only this object may use the plan. Requests that change the plan wait for each other."""
 
     def __init__(
         self,
@@ -56,9 +55,15 @@ class Control:
     ) -> None:
         """`obey` carries out words about hosts and reports the links' part, as words with a moment in ns; `status` reports counts;
         `enter` opens a host."""
-        self.plan, self.page, self.obey, self.status, self.enter = plan, page, obey, status, enter
+        self.plan = plan
+        self.page = page
+        self.obey = obey
+        self.status = status
+        self.enter = enter
         self.lines = lines or HostLines()
-        self.until, self.is_wanted = 0.0, lambda: True  # of the order that is obeyed
+        # of the order that is obeyed
+        self.until = 0.0
+        self.is_wanted = lambda: True
         try:
             self.server = Server(path)
         except OSError as error:
@@ -86,10 +91,8 @@ class Control:
         return Answer(Reply(status=self.status()))
 
     def change_by(self, words: str, client: Client) -> list[ObeyedLine]:
-        """Changes links for a client, after earlier requests; returns the applied lines.
-
-        Wrong: the request is too long, the run is busy, or the client has gone.
-        """
+        """Changes links for a client, after earlier requests; returns the applied lines. Wrong: the request is too long, the run is
+        busy, or the client has gone."""
         if len(words) > LONGEST_LINE:
             raise Wrong(f"words of more than {LONGEST_LINE:,} letters")
         if time.monotonic() > client.until:
@@ -100,10 +103,8 @@ class Control:
         return self.change(words)
 
     def change(self, words: str) -> list[ObeyedLine]:
-        """Makes the host apply words; returns each line with its moment in ns, or with the reason for a refusal.
-
-        Wrong: the words produce no line.
-        """
+        """Makes the host apply words; returns each line with its moment in ns, or with the reason for a refusal. Wrong: the words
+        produce no line."""
         moment = self.moment()
         new = self.obey(words, moment)
         if isinstance(new, ObeyedLine):
@@ -111,7 +112,7 @@ class Control:
         changes = [one for one in new if isinstance(one, Change)]
         if len(changes) < len(new):
             raise Wrong("an outage from now on loses packets: write `outage LENGTH lossy`")
-        for kind in ("change", *["act"] * (words.split()[0] in OF_LINKS)):
+        for kind in ("change", *(["act"] if words.split()[0] in LINK_WORDS else [])):
             self.lines.ask(f"line remark {kind},{words}", self.until, self.is_wanted)
         return self.followed(changes, moment)
 
@@ -122,7 +123,8 @@ class Control:
         replies = list[ObeyedLine]()
         is_heal = bool(new) and all(one.line.startswith("heal ") for one in new)
         for one in new:
-            kind, cut = one.line.split(" ", 1)[0], " ".join(one.line.split(" ", 3)[1:3])
+            kind = one.line.split(" ", 1)[0]
+            cut = " ".join(one.line.split(" ", 3)[1:3])
             if kind == "cut" and cut in ends:
                 replies += self.cut_for(one.line, ends[cut] - moment)
             elif kind != "open":
@@ -147,7 +149,6 @@ class Control:
         return answer.moment
 
     def asked_of_host(self, line: str, later: int = 0) -> ObeyedLine:
-        """Makes the host apply a line after `later` ns; returns the pipe's line from then on, unless another change comes
-        first."""
+        """Makes the host apply a line after `later` ns; returns the pipe's line from then on, unless another change comes first."""
         answer = self.lines.ask(f"at {later} {line}" if later else f"line {line}", self.until, self.is_wanted)
         return ObeyedLine(answer.moment + later, answer.line or line, answer.wrong)

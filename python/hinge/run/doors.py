@@ -1,7 +1,6 @@
 """The doors to a run's rooms: descriptors for the first process's namespaces and a room's network.
 
-A process uses them to enter the room and run a command there, like the run's commands.
-"""
+A process uses them to enter the room and run a command there, like the run's commands."""
 
 from __future__ import annotations
 

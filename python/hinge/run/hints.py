@@ -46,7 +46,7 @@ def lacking(command: Sequence[str]) -> Optional[str]:
     if re.search(r"\bserver\b", " ".join(command)) and not os.path.exists(HOSTS):
         names.append(HOSTS)
         ways.append(f"touch {HOSTS}")
-    return f"there is no {' and no '.join(names)}{': ' * bool(ways)}{'; '.join(ways)}" if names else None
+    return f"there is no {' and no '.join(names)}{': ' if ways else ''}{'; '.join(ways)}" if names else None
 
 
 def runnable(name: str) -> str:
@@ -86,9 +86,6 @@ def hints(run: RunOptions) -> Iterator[str]:
         yield "`server` runs no program: write --server COMMAND, for example --server 'iperf3 -s -1'"
     for name, port in asked_hosts(run.command):
         if LOCAL.fullmatch(name) and run.netns is None and port not in map(str, run.to):
-            to = (
-                f"--to {port} brings this system's port {port} behind it"
-                if port
-                else "--to PORT brings a port of this system behind it"
-            )
+            brought = f"this system's port {port}" if port else "a port of this system"
+            to = f"--to {port or 'PORT'} brings {brought} behind it"
             yield f"{name} is the client's own address, before the link: {to}, and `server` is the host at its end"

@@ -27,8 +27,7 @@ PIECE = 1 << 16  # letters of a plan
 def program() -> str:
     """Returns the path to hinge-link: the variable HINGE_LINK, the installed host beside this module, or the repository's host.
 
-    In a repository, the host from tools/release/hosts precedes the released host. Missing: there is no hinge-link.
-    """
+    In a repository, the host from tools/release/hosts precedes the released host. Missing: there is no hinge-link."""
     if sys.platform != "linux":
         raise Missing("the host is a program of Linux")
     repository = HERE.parents[2]
@@ -36,8 +35,7 @@ def program() -> str:
         if place and os.access(place, os.X_OK):
             return os.path.abspath(place)
     raise Missing(
-        f"there is no host {NAME}: in a clone tools/release/hosts builds it, with a C compiler; the variable HINGE_LINK can"
-        " name it"
+        f"there is no host {NAME}: in a clone tools/release/hosts builds it, with a C compiler; the variable HINGE_LINK can name it"
     )
 
 
@@ -84,11 +82,10 @@ class Link:
         self.process = forked(begin)
 
     def failed(self) -> Optional[int]:
-        """Waits until the link is ready. Otherwise returns the status of a host that ended early and printed the reason, or of
-        a signal.
+        """Waits until the link is ready. Otherwise returns the status of a host that ended early and printed the reason, or of a
+        signal.
 
-        After a signal, the link is gone.
-        """
+        After a signal, the link is gone."""
         came = self.processes.poll(
             lambda: self.page.head("state") != STARTING or self.process in self.processes.ended, math.inf, POLL
         )

@@ -26,15 +26,10 @@ class Answer(NamedTuple):
     line: str  # the configuration line that a pipe has now, or nothing
 
 
-def always() -> bool:
-    return True
-
-
 class HostLines:
     """Sends lines to the host, which replies to each in order.
 
-    A line that the host hasn't read when the client leaves is withdrawn, so the host never applies a line too late.
-    """
+    A line that the host hasn't read when the client leaves is withdrawn, so the host never applies a line too late."""
 
     def __init__(self) -> None:
         self.own, self.hosts = socket.socketpair(socket.AF_UNIX, socket.SOCK_SEQPACKET)
@@ -50,7 +45,7 @@ class HostLines:
         """Returns the plan's line about the socket."""
         return f"control {self.descriptor()}\n"
 
-    def ask(self, text: str, until: Optional[float] = None, is_wanted: Callable[[], bool] = always) -> Answer:
+    def ask(self, text: str, until: Optional[float] = None, is_wanted: Callable[[], bool] = lambda: True) -> Answer:
         """Sends a line and returns the host's reply. The host must read it before `until`, while the client stays. Wrong: the
         line is too long."""
         if len(os.fsencode(text)) > LONGEST_LINE:

@@ -19,11 +19,10 @@ from hinge.run.ports import Ports
 from hinge.run.processes import SIGNALLED, Ended, Processes, Ticker, name_of
 from hinge.run.rooms import Rooms
 from hinge.run.settings import RunOptions
-from hinge.run.summary import record
+from hinge.run.summary import Watch, record
 from hinge.run.system import enter, is_simulated
 from hinge.run.two_hosts import ends_of
 from hinge.run.verdict import Waits
-from hinge.run.watch import Watch
 from hinge.run.words import Wrong
 
 if TYPE_CHECKING:
@@ -46,7 +45,11 @@ class Inside:
         ports: Optional[Ports] = None,
     ) -> None:
         """`network` is an existing network to join, if any."""
-        self.options, self.order, self.outside, self.ports, self.page = options, order, outside, ports, Page()
+        self.options = options
+        self.order = order
+        self.outside = outside
+        self.ports = ports
+        self.page = Page()
         self.processes = Processes(WATCHED if options.command else WATCHED | {signal.SIGINT})
         self.joined = None if network is None else Joined(network, options.mtu, own_users)
         self.rooms = self.joined or Rooms(options.mtu, own_users, ends_of(options.net))
@@ -57,7 +60,8 @@ class Inside:
     def start(self, host: str, words: Sequence[str]) -> int:
         """Starts a host's command; returns its process."""
         is_server = host == HOSTS[1]
-        room, cgroup = self.rooms.server if is_server else self.rooms.client, None if is_simulated() else self.cgroups.of(host)
+        room = self.rooms.server if is_server else self.rooms.client
+        cgroup = None if is_simulated() else self.cgroups.of(host)
         self.started[host] = self.rooms.start(room, words, self.order.mask, cgroup, is_server)
         return self.started[host]
 

@@ -29,7 +29,12 @@ ADVERTISEMENT, OVERRIDE = 136, 0x20000000  # ND_NEIGHBOR_ADVERT, ND_NA_FLAG_OVER
 REJECTS = 0x200  # RTF_REJECT, in /proc/net/ipv6_route
 MAIN_TABLE, BY_BOOT, UNICAST, GATEWAY = 254, 3, 1, 5  # RT_TABLE_MAIN, RTPROT_BOOT, RTN_UNICAST, RTA_GATEWAY
 # RTA_DST, RTA_OIF, RTA_PRIORITY, RTA_PREFSRC, RTA_TABLE, RT_SCOPE_LINK
-DESTINATION, OUT_BY, METRIC, PREFERRED, ROUTE_TABLE, LINK_SCOPE = 1, 4, 6, 7, 15, 253
+DESTINATION = 1
+OUT_BY = 4
+METRIC = 6
+PREFERRED = 7
+ROUTE_TABLE = 15
+LINK_SCOPE = 253
 TUNSETIFF, TUN, TAP, WITH_NOTE = 0x400454CA, 1, 2, 0x5000  # IFF_TUN, IFF_TAP, IFF_NO_PI | IFF_VNET_HDR
 TUNSETOFFLOAD, LEFT_TO_A_CARD = 0x400454D0, 7  # TUN_F_CSUM | TUN_F_TSO4 | TUN_F_TSO6
 TUNSETPERSIST = 0x400454CB
@@ -41,7 +46,10 @@ UNFORWARDED = ("IpInNoRoutes", "IpFragFails", "Ip6InNoRoutes", "Ip6InTooBigError
 LISTENS = (("tcp", "0A"), ("tcp6", "0A"), ("udp", "07"), ("udp6", "07"))  # in /proc/net, and the state there
 QUIET = (("accept_dad", "0"), ("accept_ra", "0"), ("router_solicitations", "0"))  # of IPv6
 # IFLA_AF_SPEC, IFLA_INET_CONF, IFLA_INET6_ADDR_GEN_MODE, IN6_ADDR_GEN_MODE_NONE
-OF_FAMILIES, INET_CONF, ADDRESS_MODE, NO_ADDRESS = 26, 1, 8, 1
+OF_FAMILIES = 26
+INET_CONF = 1
+ADDRESS_MODE = 8
+NO_ADDRESS = 1
 FORWARDING, PROXY_ARP = 1, 3  # IPV4_DEVCONF_FORWARDING, IPV4_DEVCONF_PROXY_ARP
 TUN_ADVICE = {
     errno.ENOENT: "in a container give it --device /dev/net/tun; elsewhere sudo modprobe tun",
@@ -77,10 +85,8 @@ def be_silent(name: str) -> None:
     """Stops an interface from choosing an IPv6 address, so that the kernel sends no packets there."""
     for setting, value in QUIET:
         try_to_write(f"/proc/sys/net/ipv6/conf/{name}/{setting}", value)
-    try:
+    with suppress(OSError):  # a system without IPv6
         change(name, 0, 0, of_family(socket.AF_INET6, packed([(ADDRESS_MODE, bytes([NO_ADDRESS]))])))
-    except OSError:
-        pass  # a system without IPv6
 
 
 @lru_cache(maxsize=4096)
@@ -105,7 +111,8 @@ def around_address(
     family: int, index: int, source: str, bits: int, table: int, metric: Optional[int], gateway: Optional[str]
 ) -> tuple[bytes, bytes]:
     """Returns the text before and after the address in a query for a way, which is the same for most hosts in a net."""
-    scope, length = 0 if gateway or family == socket.AF_INET6 else LINK_SCOPE, 16 if family == socket.AF_INET6 else 4
+    scope = 0 if gateway or family == socket.AF_INET6 else LINK_SCOPE
+    length = 16 if family == socket.AF_INET6 else 4
     before = struct.pack("BBBBBBBBIHH", family, bits, 0, 0, 0, BY_BOOT, scope, UNICAST, 0, 4 + length, DESTINATION)
     attributes = [
         (OUT_BY, struct.pack("I", index)),
@@ -129,8 +136,7 @@ def interface_route(
 ) -> Request:
     """Returns a route through an interface, to an address or to a network with `bits` bits.
 
-    `source` is the source address for packets without an address. The route with the lowest metric wins.
-    """
+    `source` is the source address for packets without an address. The route with the lowest metric wins."""
     family, data = family_and_bytes(text)
     before, behind = around_address(family, index, source, 8 * len(data) if bits is None else bits, table, metric, gateway)
     return Request(NEWROUTE, before + data + behind, may_fail)
@@ -149,10 +155,8 @@ def announce(name: str, text: str) -> None:
         teller.setsockopt(socket.IPPROTO_IPV6, FREEBIND, 1)
         teller.setsockopt(socket.IPPROTO_IPV6, socket.IPV6_MULTICAST_HOPS, 255)
         teller.bind((text, 0))
-        teller.sendto(
-            struct.pack("!BBHI", ADVERTISEMENT, 0, 0, OVERRIDE) + socket.inet_pton(socket.AF_INET6, text),
-            ("ff02::1", 0, 0, index),
-        )
+        head = struct.pack("!BBHI", ADVERTISEMENT, 0, 0, OVERRIDE)
+        teller.sendto(head + socket.inet_pton(socket.AF_INET6, text), ("ff02::1", 0, 0, index))
 
 
 def leads_out_in_ipv6() -> bool:
@@ -166,7 +170,7 @@ def leads_out_in_ipv6() -> bool:
 
 @kept_as_step
 def open_tun(name: str, flags: int, offload: int, persists: bool) -> int:
-    """A descriptor of a new interface. Missing: the system refuses an interface."""
+    """Returns a new interface's descriptor. Missing: the system refuses an interface."""
     try:
         descriptor = os.open("/dev/net/tun", os.O_RDWR | os.O_CLOEXEC)
     except OSError as error:
@@ -192,10 +196,8 @@ def add_tun(
         change(name, 0, 0, [(HARDWARE_ADDRESS, mac)])
     set_up(name, UP | MULTICAST, ((MTU, mtu), (QUEUE_LENGTH, QUEUE)))
     add_address(name, address, bits)
-    try:
+    with suppress(OSError):  # a system without IPv6
         add_address(name, address6, 64)
-    except OSError:
-        pass  # a system without IPv6
     return descriptor
 
 

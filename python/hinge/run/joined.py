@@ -1,20 +1,21 @@
-"""A link inside an existing network such as a container's: between its programs and its interface, for IPv4, with routing
-rules.
+"""A link inside an existing network such as a container's: between its programs and its interface, for IPv4, with routing rules.
 
 Packets from its programs enter a tun interface, pass the link, leave through a second tun interface, and continue on their old
-route. Packets to its programs pass the other way. When the host ends, for any reason, its interfaces and their routes
-disappear, and the remaining rules send all packets the old way. The end of the run, or the next run there, removes these rules.
-"""
+route. Packets to its programs pass the other way. When the host ends, for any reason, its interfaces and their routes disappear,
+and the remaining rules send all packets the old way. The end of the run, or the next run there, removes these rules."""
 
 from __future__ import annotations
 
 import errno
 import os
+import shutil
 import socket
 import struct
+from contextlib import suppress
 from typing import NamedTuple
 
 from hinge.border.files import read_system
+from hinge.border.programs import Answer, asked
 from hinge.border.scratch import held
 from hinge.run.interfaces import add_interface_route, add_tun, dropped, hand_on
 from hinge.run.rooms import Rooms, see_own_processes
@@ -35,6 +36,8 @@ TAKES_ROOT = "--netns: only root may enter the network of another one: sudo hing
 # taken by a socket before
 # it was on the link.
 OF_INTERFACES, OF_ALL = {"rp_filter": "0", "accept_local": "1"}, {"ip_early_demux": "0"}
+ENGINES = ("docker", "podman")
+NONE = "there is no docker and no podman on the path; write --netns PID, with a process of the container"
 
 
 def network_of(text: str) -> int:
@@ -72,12 +75,9 @@ def way_out() -> WayOut:
 
 
 def rule(kind: int, priority: int, table: int, comes_by: str = "") -> None:
-    inputs = [(COMES_BY, comes_by.encode() + b"\0")] if comes_by else []
-    ask_kernel(
-        kind,
-        struct.pack("BBBBBBBBI", socket.AF_INET, 0, 0, 0, 0, 0, 0, TO_TABLE, 0),
-        [*inputs, (PRIORITY, struct.pack("I", priority)), (TABLE, struct.pack("I", table))],
-    )
+    attributes = [(PRIORITY, struct.pack("I", priority)), (TABLE, struct.pack("I", table))]
+    attributes[:0] = [(COMES_BY, comes_by.encode() + b"\0")] if comes_by else []
+    ask_kernel(kind, struct.pack("BBBBBBBBI", socket.AF_INET, 0, 0, 0, 0, 0, 0, TO_TABLE, 0), attributes)
 
 
 def rules(by: str) -> list[tuple[int, str]]:
@@ -87,10 +87,8 @@ def rules(by: str) -> list[tuple[int, str]]:
 
 def without_rules(by: str) -> None:
     """Removes all rules of a run, and makes the rule for local addresses the first again."""
-    try:
+    with suppress(OSError):
         rule(DELRULE, 0, LOCAL)
-    except OSError:
-        pass
     rule(NEWRULE, 0, LOCAL)
     for place, (table, comes_by) in enumerate(rules(by)):
         while True:
@@ -141,3 +139,37 @@ class Joined(Rooms):
         for name, value in self.before.items():
             try_to_write(SETTINGS + name, value)
         hand_on(self.out.interface, self.handed_on, self.was_asked)
+
+
+def said(engine: str, *words: str) -> Answer:
+    return asked([engine, *words], statuses=range(256))
+
+
+def process_of(name: str) -> str:
+    """Returns the first process of a container. Wrong: no running container has this name, or several have this image. Missing: no
+    engine answers."""
+    engines = [engine for engine in ENGINES if shutil.which(engine)]
+    others = list[str]()
+    faults = list[str]()
+    for engine in engines:
+        all_names = said(engine, "ps", "--format", "{{.Names}} {{.Image}}")
+        if all_names.status:
+            faults += [line for line in all_names.told.splitlines() if line][-1:]
+            continue
+        running = [line.partition(" ")[::2] for line in all_names.text.splitlines()]
+        others += [one for one, _ in running]
+        same = said(engine, "ps", "--format", "{{.Names}}", "--filter", f"ancestor={name}").text.split()
+        # podman's filter knows no image without its registry
+        same = same or [one for one, image in running if f"/{image}".removesuffix(":latest").endswith(f"/{name}")]
+        if len(same) > 1:
+            raise Wrong(f"--container {name}: several containers of this image run; write one of {', '.join(same)}")
+        for one in (name, *same):
+            process = said(engine, "container", "inspect", "--format", "{{.State.Pid}}", one).text.strip()
+            if process == "0":
+                raise Wrong(f"--container {name}: it doesn't run; write {engine} start {one} before it")
+            if process.isdecimal():
+                return process
+    if len(faults) == len(engines):
+        raise Missing(f"--container {name}: {'; '.join(faults) or NONE}")
+    run = f"write one of {', '.join(others)}" if others else f"none runs for this user; write {engines[-1]} run before it, or sudo"
+    raise Wrong(f"--container {name}: no container or image of this name runs; {run}")

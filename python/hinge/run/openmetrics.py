@@ -68,7 +68,7 @@ def samples(family: Family, label: str, way: dict[str, Any]) -> Iterator[str]:
             yield f'hinge_{family.name}{{{label},quantile="{quantile}"}} {way[f"{family.key}_{part}_ms"] / MS:.9g}'
         return
     value = way[family.key] / NS if family.unit == "seconds" else way[family.key]
-    yield f"hinge_{family.name}{'_total' * (family.kind == 'counter')}{{{label}}} {value!r}"
+    yield f"hinge_{family.name}{'_total' if family.kind == 'counter' else ''}{{{label}}} {value!r}"
 
 
 def head(name: str, kind: str, unit: str, text: str) -> Iterator[str]:

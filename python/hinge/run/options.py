@@ -47,9 +47,9 @@ class ListPresets(argparse.Action):
     def __call__(
         self, parser: argparse.ArgumentParser, namespace: argparse.Namespace, values: object, option: Optional[str] = None
     ) -> NoReturn:
-        from hingetulip_words.presets import table
+        from hingetulip_words.presets import preset_table
 
-        show(table())
+        show(preset_table())
         parser.exit()
 
 
@@ -81,7 +81,7 @@ class Model(argparse._AppendAction):
     """A loss model, or a rate, which the link takes."""
 
     def __call__(self, parser: argparse.ArgumentParser, namespace: argparse.Namespace, values: Any, option: Any = None) -> None:
-        from hinge.run.losses import rate_of
+        from hinge.loss import rate_of
 
         if isinstance(parser, Parser) and rate_of(values):
             parser.foreign.append(("--loss", rate_of(values)))
@@ -107,13 +107,8 @@ def add_link(parser: Parser, table: Optional[Mapping[str, str]] = None) -> None:
     add(link, "--list-presets", "print the presets and their figures", action=ListPresets, nargs=0, default=argparse.SUPPRESS)
     link.add_argument("--config", metavar="FILE", help="configuration lines, of any pipes and queues (hinge docs LINKS)")
     link.add_argument("--line", metavar="LINE", action="append", default=[], help="one more configuration line; may be repeated")
-    add(
-        link,
-        "--map RULE",
-        f"'{RULE} => queue N' or '=> pipe N': where a packet goes, by the first rule that fits; else pipe 1 up, pipe 2 down",
-        action="append",
-        default=[],
-    )
+    rule = f"'{RULE} => queue N' or '=> pipe N': where a packet goes, by the first rule that fits; else pipe 1 up, pipe 2 down"
+    add(link, "--map RULE", rule, action="append", default=[])
     add_changes(parser.add_argument_group("changes"))
     parser.needs("--bin --trace-for", "--up-trace", "--down-trace")
     parser.yields("--link --preset", "--up", "--down")
@@ -126,19 +121,11 @@ def add_changes(changes: argparse._ArgumentGroup) -> None:
     add(changes, "--timeline FILE", "lines as '5s pipe 1 config bw 1Mbit/s' and '8s [up|down] outage 600ms [lossy]'")
     changes.add_argument("--up-trace", metavar="FILE", help="bandwidth by time: seconds,bit/s or mahimahi's milliseconds")
     changes.add_argument("--down-trace", metavar="FILE")
-    add(
-        changes,
-        "--bin TIME",
-        "count mahimahi's milliseconds over this, and don't obey each (100ms for a pipe with queues or masks)",
-    )
+    counted = "count mahimahi's milliseconds over this, and don't obey each (100ms for a pipe with queues or masks)"
+    add(changes, "--bin TIME", counted)
     changes.add_argument("--trace-for", metavar="TIME", help="how long counted traces are begun anew (1h)")
-    add(
-        changes,
-        "--loss MODEL",
-        "[up:|down:]gilbert:P,R[,B[,G]] (to bad, to good, lost in bad 1, in good 0) or list:3,10-20 (packets, from 1)",
-        action=Model,
-        default=[],
-    )
+    model = "[up:|down:]gilbert:P,R[,B[,G]] (to bad, to good, lost in bad 1, in good 0) or list:3,10-20 (packets, from 1)"
+    add(changes, "--loss MODEL", model, action=Model, default=[])
     add(changes, "--faults FILE", "`client > server packet 3 lost`, `twice` or `late 80ms`, in the place of --loss")
     changes.add_argument("--seed", metavar="N", type=seed, help="of what is drawn, for each direction by itself (drawn, and told)")
 

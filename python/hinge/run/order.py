@@ -1,5 +1,4 @@
-"""The order for a run: the link's plan, its outputs and its limits, according to the command line; and the report at the end.
-"""
+"""The order for a run: the link's plan, its outputs and its limits, according to the command line; and the report at the end."""
 
 from __future__ import annotations
 
@@ -53,11 +52,13 @@ class Order(NamedTuple):
 
 def order_of(options: LiveOptions, longest: int, mask: Mask, server_wait: str = "0", server_end: str = "0") -> Order:
     """Returns the order for packets of at most `longest` bytes."""
-    plan, seed = plan_of(options, longest), drawn_seed(options.seed)
+    plan = plan_of(options, longest)
+    seed = drawn_seed(options.seed)
     transcript = os.path.abspath(options.transcript) if options.transcript else None
     text = plan.text(seed, transcript, options.realtime, options.most, is_simulated())
     limit = limit_of(options.late)
-    wait, end = duration(server_wait, "--server-wait") / 1e9, duration(server_end, "--server-end") / 1e9
+    wait = duration(server_wait, "--server-wait") / 1e9
+    end = duration(server_end, "--server-end") / 1e9
     return Order(options, text, limit, seed, draws(plan), mask, wait, end, plan)
 
 
@@ -77,7 +78,8 @@ def report(
     """Reports the run, on standard error and in the --json file; returns the status, or VOID for a void run."""
     options, counts = order.options, page.read()
     of_programs = waits.over if waits else lambda limit: []
-    awaited, may_be_late = order.made.awaited(), waits is not None
+    awaited = order.made.awaited()
+    may_be_late = waits is not None
     faults, warnings = verdict(counts, drops, order.plan, order.limit, of_programs, awaited=awaited, may_be_late=may_be_late)
     lines = [line(counts, drops) + f"; seed {order.seed}" * order.draws, *(warnings if status != NOT_FOUND else ())]
     told_all = {

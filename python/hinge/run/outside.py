@@ -1,7 +1,6 @@
 """The outside network behind a host. pasta or slirp4netns runs in the system's network and connects the host's room to the outside.
 
-IPv6 is connected if the system has an IPv6 route.
-"""
+IPv6 is connected if the system has an IPv6 route."""
 
 from __future__ import annotations
 
@@ -42,28 +41,25 @@ INTERFACE = "outside"
 PATIENCE = 20  # s
 
 
-def side_beside(network: str) -> Side:
-    """Returns a network that doesn't overlap with the hosts' network."""
-    overlaps = ipaddress.IPv4Network(FIRST.net).overlaps(ipaddress.IPv4Network(network))
-    return SECOND if overlaps else FIRST
-
-
 def words_for(process: str, own_users: bool, ipv6: bool, loopback: bool, outer: Side) -> list[str]:
-    """Returns the command that connects a process's network to this one: slirp4netns if installed, otherwise pasta, which
-    refuses root.
+    """Returns the command that connects a process's network to this one: slirp4netns if installed, otherwise pasta, which refuses
+    root.
 
-    Unless told otherwise, both map the gateway to the system's loopback, and servers there would see local callers.
-    """
+    Unless told otherwise, both map the gateway to the system's loopback, and servers there would see local callers."""
     network, users = f"/proc/{process}/ns/net", f"/proc/{process}/ns/user"
     if shutil.which("slirp4netns"):
-        more = [*["--enable-ipv6"] * ipv6, *["--disable-host-loopback"] * (not loopback), *[f"--userns-path={users}"] * own_users]
+        more = [
+            *["--enable-ipv6"] * ipv6,
+            *(["--disable-host-loopback"] if not loopback else []),
+            *[f"--userns-path={users}"] * own_users,
+        ]
         return ["slirp4netns", "--configure", "--mtu=1500", f"--cidr={outer.net}", "--netns-type=path", *more, network, INTERFACE]
     more = ["--address", OWN6, "--gateway", GATEWAY6] if ipv6 else ["--ipv4-only"]
     return [
         *("pasta", "--foreground", "--quiet", "--config-net", "--ns-ifname", INTERFACE, *more, "--mtu", "1500"),
         *("--address", outer.own, "--netmask", "24", "--gateway", outer.gateway, "--dns-forward", outer.resolver),
         *"-t none -u none -T none -U none".split(),
-        *["--no-map-gw"] * (not loopback),
+        *(["--no-map-gw"] if not loopback else []),
         *("--userns", users, "--netns", network),
     ]
 
@@ -72,11 +68,13 @@ class Outside:
     """Starts before this process leaves the system's network, and waits for the name of the room to connect."""
 
     def __init__(self, loopback: bool, network: str) -> None:
-        """`network` is the hosts' network."""
-        self.loopback, self.outer = loopback, side_beside(network)
+        """`network` is the hosts' network, with which the outer side's doesn't overlap."""
+        overlaps = ipaddress.IPv4Network(FIRST.net).overlaps(ipaddress.IPv4Network(network))
+        self.loopback = loopback
+        self.outer = SECOND if overlaps else FIRST
         if not shutil.which("slirp4netns") and (os.geteuid() == 0 or not shutil.which("pasta")):
             raise Missing(
-                "--outside: slirp4netns isn't there, nor pasta, which serves users but root: sudo apt install" " slirp4netns"
+                "--outside: slirp4netns isn't there, nor pasta, which serves users but root: sudo apt install slirp4netns"
             )
         self.ipv6 = leads_out_in_ipv6()
         self.said = os.memfd_create("said")  # what the joining program says: told where there is no way out
@@ -117,8 +115,7 @@ class Outside:
     def join(self, network: int, interfaces: Sequence[str], others: Sequence[str]) -> bool:
         """Waits for the interface, then forwards packets between it and `interfaces`. Runs in the first process.
 
-        `others` are the IPv6 addresses behind these interfaces. Returns whether IPv6 works too. Missing: there is no way out.
-        """
+        `others` are the IPv6 addresses behind these interfaces. Returns whether IPv6 works too. Missing: there is no way out."""
         enter(network)
         for name in ("accept_dad", "accept_ra"):
             # else it asks for a second whether its address is another's
@@ -128,7 +125,7 @@ class Outside:
         while not self.joined():
             if time.monotonic() > until:
                 raise Missing(
-                    "--outside: the host gets no way out:" f" {os.pread(self.said, 1000, 0).decode(errors='replace').strip()}"
+                    f"--outside: the host gets no way out: {os.pread(self.said, 1000, 0).decode(errors='replace').strip()}"
                 )
             time.sleep(0.01)
         for name in (*interfaces, INTERFACE) if interfaces else ():

@@ -28,8 +28,7 @@ class Times:
         self.bins, self.most = bins, most
 
     def within(self, share: float) -> float:
-        """Returns the ms within which this share of the packets or the time lies: the bin's upper end, at most the longest
-        time."""
+        """Returns the ms within which this share of the packets or the time lies: the bin's upper end, at most the longest time."""
         total, below = sum(self.bins), 0
         for index, count in enumerate(self.bins if total else ()):
             below += count

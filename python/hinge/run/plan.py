@@ -1,9 +1,8 @@
-"""The plan for the host hinge-link, as text with a line for each item, whose forms hosts/link/plan.c lists. This module reads files, and
-needs no other system call.
+"""The plan for the host hinge-link, as text with a line for each item, whose forms hosts/link/plan.c lists. This module reads
+files, and needs no other system call.
 
 WAY 0 is up, from the client through pipe 1, and WAY 1 is down, from the server through pipe 2. A second link uses ways 2 and 3 and
-pipes 3 and 4, and so on. The words for a link always call its pipes 1 and 2.
-"""
+pipes 3 and 4, and so on. The words for a link always call its pipes 1 and 2."""
 
 from __future__ import annotations
 
@@ -18,6 +17,7 @@ from typing import TYPE_CHECKING, Iterable, Iterator, Optional, Sequence
 
 from hinge.arguments import is_number
 from hinge.border.files import untrusted
+from hinge.events.forms import CHANGES, line_meant
 from hinge.run.changes import Bandwidths, Change, Changes, Happening, Outage, refuse_second
 from hinge.run.options import MOST
 from hinge.run.traces import MAHIMAHI_BYTES, MOST_BINS, MS, Moments, counted, read_trace, spelled
@@ -38,8 +38,8 @@ from hinge.run.words import (
     target_of,
     with_bandwidth,
 )
-from hingetulip_words.advice import CHANGES, line_meant
-from hingetulip_words.link import Extra, Link, Place, WordError, refusal
+from hingetulip_words.link import Extra, LinkWords, Place, WordError, refusal_of_change
+from hingetulip_words.values import SHARES
 
 if TYPE_CHECKING:
     from hinge.events.kinds import Event, NewWords, TimedEvent
@@ -94,12 +94,12 @@ class Plan:
         self.last_free = LAST_PIPE
         self.has_moments = self.has_bins = False  # of mahimahi's traces, and whether they are counted over bins
 
-    def words(self, way: int, link: Link) -> None:
+    def words(self, way: int, link: LinkWords) -> None:
         """Reads the properties in a way's first words that its line can't express."""
         self.lose(way, link)
         self.extra(way, link.extra)
 
-    def lose(self, way: int, link: Link) -> None:
+    def lose(self, way: int, link: LinkWords) -> None:
         """Notes a loss in the words of a way. Wrong: rules send packets of the way to a queue with a line without `plr`."""
         loss = link.options.get("plr", "0")
         if float(loss):
@@ -113,11 +113,11 @@ class Plan:
         except WordError:
             return {}
 
-    def refuse_left_out(self, way: int, words: Link, event: NewWords) -> None:
+    def refuse_left_out(self, way: int, words: LinkWords, event: NewWords) -> None:
         """Wrong: a change leaves out an option that the link has at its beginning."""
         is_alike = len({str(self.begun(way)) for way in event.ways}) == 1
         side = event.side or ("" if is_alike else ("up", "down")[event.ways.index(way)])
-        if why := refusal(self.begun(way), words.options, " ".join(filter(None, (event.ends, side, "{}")))):
+        if why := refusal_of_change(self.begun(way), words.options, " ".join(filter(None, (event.ends, side, "{}")))):
             raise Wrong(f"'{event.words}': {why}")
 
     def take(self, line: str) -> None:
@@ -138,8 +138,7 @@ class Plan:
     def refuse_unlost(loss: str, queues: set[Target]) -> None:
         if float(loss) and queues:
             raise Wrong(
-                "the link's loss isn't that of a queue, to which a rule sends packets:"
-                f" write `plr {loss}`, or `plr 0`, in the queue's line"
+                f"the link's loss isn't that of a queue, to which a rule sends packets: write `plr {loss}`, or `plr 0`, in the queue's line"
             )
 
     def extra(self, way: int, extra: Extra) -> None:
@@ -167,7 +166,7 @@ class Plan:
 
     def note(self, option: str, number: int, line: str) -> None:
         text = bare(line) if self.is_noted else ""
-        self.asked.write(f"remark asked,{option},{number},{text}\n" * bool(text))
+        self.asked.write((f"remark asked,{option},{number},{text}\n" if text else ""))
 
     def faults(self, path: str, names: Iterable[str], is_net: bool = False) -> None:
         """Adds the faults in a file, which then decide all losses. `names` are the names of the ways. Wrong: a line is no fault
@@ -194,14 +193,10 @@ class Plan:
         from hinge.fault_lines import CUT, HOLD, spelled as spelled_time
 
         if act.kind not in (CUT, HOLD) or act.of not in names:
-            hint = (
-                f"write `at {spelled_time(act.moment)} cut {names[0]} 2s` or `hold`"
-                if names
-                else "write it as a line `at` of the net"
-            )
-            raise ValueError(f"{path}: '{act}': no cut or hold of a link; {hint}")
+            right = f"`at {spelled_time(act.moment)} cut {names[0]} 2s` or `hold`" if names else "it as a line `at` of the net"
+            raise ValueError(f"{path}: '{act}': no cut or hold of a link; write {right}")
         way = "up" if act.of == names[0] else "down"
-        event = link_event(f"{way} outage {spelled_time(act.seconds)}{' lossy' * (act.kind == CUT)}", path)
+        event = link_event(f"{way} outage {spelled_time(act.seconds)}{' lossy' if act.kind == CUT else ''}", path)
         self.happen(event, round(act.moment * SECOND), str(act))
 
     def faults_of(self, way: int, faults: Sequence[Fault]) -> None:
@@ -218,7 +213,7 @@ class Plan:
         packets = {kind: [fault.packet for fault in faults if fault.kind == kind] for kind in (IS_LOST, IS_TWICE)}
         late = {fault.packet: fault.ms for fault in faults if fault.kind == IS_LATE}
         extra, pipes = self.extras.get(way, (Extra(), []))
-        delays = sorted({*late.values(), *[0] * (not pipes)} if late else ())
+        delays = sorted({*late.values(), *([0] if not pipes else [])} if late else ())
         pipe_of = dict(zip(delays, self.second_pipes(delays)))
         self.extras[way] = extra, [*pipes, *pipe_of.values()]
         self.decided[way] = "faults"
@@ -255,8 +250,7 @@ class Plan:
         items = []
         for way, (extra, pipes) in self.extras.items():
             items += [f"jitter {way} {pipes[0]} {max(1, extra.pipes)} {seed}"] if pipes else []
-            items += [f"copies {way} {extra.duplicate} {seed}"] if extra.duplicate else []
-            items += [f"corruption {way} {extra.corrupt} {seed}"] if extra.corrupt else []
+            items += [f"{word} {way} {chance} {seed}" for word in SHARES if (chance := getattr(extra, word))]
         return items
 
     def link(self, line: str, link: int = 0) -> None:
@@ -296,7 +290,7 @@ class Plan:
         self.refuse_unlost(self.losses.get(way, "0"), {rule.target} & self.silent)
 
     def loss(self, text: str, link: int = 0) -> None:
-        from hinge.run.losses import loss_lines, model_name
+        from hinge.loss import loss_lines, model_name
 
         lines = loss_lines(text, link)
         for first in re.findall(r"(\d+)(?:-\d+)?", text) if "list:" in text else ():
@@ -316,7 +310,8 @@ class Plan:
         others = [
             f"rules send packets to {one.kind} {one.number}" for one in self.mapped.get(pipe - 1, ()) if one != Target("pipe", pipe)
         ]
-        others += ["a mask parts its packets"] * (pipe in self.masks)
+        if pipe in self.masks:
+            others.append("a mask parts its packets")
         if others:
             raise Wrong(f"{others[0]}, which an outage doesn't hold: {hint}")
 
@@ -333,7 +328,8 @@ class Plan:
                 self.refuse_left_out(way, words, event)
                 self.take(words.line(way + 1))
             return [Change(moment, words.line(way + 1)) for way, words in sorted(zip(event.ways, event.links))]
-        pipes, new = sorted(way + 1 for way in event.ways), list[Happening]()
+        pipes = sorted(way + 1 for way in event.ways)
+        new = list[Happening]()
         port = f" {event.port.protocol} {event.port.number}" if event.port else ""
         for pipe in pipes:
             if Target("pipe", pipe) not in self.current:
@@ -398,9 +394,8 @@ class Plan:
     def trace(self, way: int, path: str, bin_ns: Optional[int], lasting: int) -> None:
         """Makes a way's bandwidth follow a file. Wrong: the pipe isn't configured.
 
-        mahimahi's moments apply separately if there is no bin length and the pipe is a single queue. Otherwise they are counted
-        in bins, which repeat for `lasting` ns.
-        """
+        mahimahi's moments apply separately if there is no bin length and the pipe is a single queue. Otherwise they are counted in
+        bins, which repeat for `lasting` ns."""
         line = self.current.get(Target("pipe", way + 1))
         if line is None:
             raise Wrong(f"{path}: pipe {way + 1} isn't configured")
@@ -419,11 +414,11 @@ class Plan:
 
     def bins(self, line: str, path: str, moments: Moments, bin_ns: int, lasting: int) -> None:
         self.has_bins = True
-        rates, period = counted(path, moments, bin_ns, self.longest), moments[-1] * MS
+        rates = counted(path, moments, bin_ns, self.longest)
+        period = moments[-1] * MS
         if len(rates) > 1 and len(rates) * (lasting // period) > MOST_BINS:
             raise Wrong(
-                f"{path}: it has {len(rates)} rates and would begin {lasting // period} times; take a longer --bin, or"
-                " a shorter --trace-for"
+                f"{path}: it has {len(rates)} rates and would begin {lasting // period} times; take a longer --bin, or a shorter --trace-for"
             )
         for base in range(0, lasting, period) if len(rates) > 1 else [0]:
             self.changes.lines += [Change(base + moment, with_bandwidth(line, rate)) for moment, rate in rates]
@@ -449,5 +444,5 @@ class Plan:
         text = "".join(f"{line}\n" for line in front) + self.asked.getvalue()
         for line in self.lines(seed):
             text += f"{line}\n"  # which grows in its place, where a StringIO is copied at its end
-        text += "realtime\n" * realtime + "simulated\n" * in_simulated_time
+        text += "realtime\n" * realtime + ("simulated\n" if in_simulated_time else "")
         return text

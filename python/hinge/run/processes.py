@@ -5,6 +5,7 @@ from __future__ import annotations
 import os
 import signal
 import time
+from contextlib import suppress
 from typing import Callable, NamedTuple, Optional, Set, Union
 
 Mask = Set[Union[int, signal.Signals]]  # of signals that are blocked
@@ -48,11 +49,9 @@ class Ticker:
 def signal_group(process: int, number: int) -> None:
     """Sends a signal to a process group, or only to the process if it leads no group."""
     for send in (os.killpg, os.kill):
-        try:
+        with suppress(ProcessLookupError):
             send(process, number)
             return
-        except ProcessLookupError:
-            pass
 
 
 class Processes:
@@ -64,15 +63,13 @@ class Processes:
         self.ended_at: dict[int, float] = {}  # and when their ends were seen, by the monotonic clock
 
     def reap(self) -> None:
-        try:
+        with suppress(ChildProcessError):
             while True:
                 process, status = os.waitpid(-1, os.WNOHANG)
                 if not process:
                     return
                 self.ended[process] = os.WEXITSTATUS(status) if os.WIFEXITED(status) else SIGNALLED + os.WTERMSIG(status)
                 self.ended_at[process] = time.monotonic()
-        except ChildProcessError:
-            pass
 
     def wait(
         self, process: int, lasting: Optional[float] = None, ticker: Optional[Ticker] = None, needed: Optional[int] = None
@@ -128,15 +125,14 @@ class Processes:
         """Ends all commands, by name and process, and returns how each ended. `start` is their start on the monotonic clock."""
         self.reap()
         themselves = {name for name, process in processes.items() if process in self.ended}
-        victims = self.end_all([process for name, process in processes.items() if name not in themselves], patience)
-        return {
-            name: Ended(
-                self.ended.get(process, SIGNALLED + signal.SIGKILL),
-                round(self.ended_at.get(process, time.monotonic()) - start, 3),
-                "itself" if name in themselves else "SIGKILL" if process in victims else "SIGTERM",
-            )
-            for name, process in processes.items()
-        }
+        others = [process for name, process in processes.items() if name not in themselves]
+        victims = self.end_all(others, patience)
+        endings = dict[str, Ended]()
+        for name, process in processes.items():
+            after = round(self.ended_at.get(process, time.monotonic()) - start, 3)
+            by = "itself" if name in themselves else "SIGKILL" if process in victims else "SIGTERM"
+            endings[name] = Ended(self.ended.get(process, SIGNALLED + signal.SIGKILL), after, by)
+        return endings
 
     def is_there(self, process: int) -> bool:
         """Returns whether the process, or a member of its group, exists."""

@@ -1,10 +1,7 @@
-"""Two rooms, which are network namespaces for the client and the server. Only the host connects them, through two tun
-interfaces.
+"""Two rooms, which are network namespaces for the client and the server. Only the host connects them, through two tun interfaces.
 
-Everything depends on one process, the first in a PID namespace. When the process ends, for example because `hinge run` was
-killed, the kernel ends all processes in the rooms and removes the rooms. No root is needed if users may create namespaces.
-Linux only.
-"""
+Everything depends on one process, the first in a PID namespace. When the process ends, for example because `hinge run` was killed,
+the kernel ends all processes in the rooms and removes the rooms. No root is needed if users may create namespaces. Linux only."""
 
 from __future__ import annotations
 
@@ -24,23 +21,8 @@ from hinge.run.cgroups import Cgroup
 from hinge.run.interfaces import add_route, add_tun, dropped, set_up
 from hinge.run.processes import Mask
 from hinge.run.steps import at_root, kept_as_step
-from hinge.run.system import (
-    BIND,
-    NEWNET,
-    NEWNS,
-    NEWPID,
-    NEWUSER,
-    Missing,
-    enter,
-    keep_mounts_to_itself,
-    keep_network_rights,
-    mount,
-    setting,
-    try_to_write,
-    unmount,
-    unshare,
-    write,
-)
+from hinge.run.system import BIND, NEWNET, NEWNS, NEWPID, NEWUSER, Missing, enter, keep_mounts_to_itself, keep_network_rights, mount
+from hinge.run.system import setting, try_to_write, unmount, unshare, write
 from hinge.run.two_hosts import Ends
 from hinge.run.users import Users, make_terminals
 
@@ -70,7 +52,7 @@ def advice(number: Optional[int]) -> str:
     if number == errno.EPERM and is_chrooted():
         return "in a chroot the kernel gives them to root alone: run it as root"
     if setting("kernel/apparmor_restrict_unprivileged_userns") == "1":
-        return "AppArmor keeps users from it: sudo sysctl kernel.apparmor_restrict_unprivileged_userns=0, or run it as" " root"
+        return "AppArmor keeps users from it: sudo sysctl kernel.apparmor_restrict_unprivileged_userns=0, or run it as root"
     if setting("kernel/unprivileged_userns_clone") == "0":
         return "users may not make them: sudo sysctl kernel.unprivileged_userns_clone=1, or run it as root"
     if setting("user/max_user_namespaces") == "0" or number == errno.ENOSPC:
@@ -85,11 +67,9 @@ def unshared() -> bool:
     """Leaves the system's namespaces, keeping the system's users if root may; returns whether there is a new user namespace."""
     flags = NEWNS | NEWPID | NEWNET
     if os.geteuid() == 0:
-        try:
+        with suppress(OSError):
             unshare(flags)
             return False
-        except OSError:
-            pass
     unshare(flags | NEWUSER)
     return True
 
@@ -118,7 +98,7 @@ def leave_the_system() -> bool:
         keep_mounts_to_itself()
     except OSError as error:
         raise Missing(
-            f"{error.filename or 'mounts'}: {error.strerror}: in a chroot mount /proc there first: mount -t proc proc" " /proc"
+            f"{error.filename or 'mounts'}: {error.strerror}: in a chroot mount /proc there first: mount -t proc proc /proc"
         ) from None
     System.is_left = True
     return own
@@ -133,10 +113,8 @@ def this_network() -> int:
 def see_own_processes() -> None:
     """Makes /proc show the processes in this namespace."""
     refuse_system()
-    try:
+    with suppress(OSError):  # a container that hides parts of /proc: the rooms see the container's processes
         mount("proc", "/proc", "proc", 0)
-    except OSError:
-        pass  # a container that hides parts of /proc: the rooms see the container's processes
 
 
 def may_ping() -> str:
@@ -156,8 +134,7 @@ def furnish() -> int:
 def put_over(path: str, text: str) -> None:
     """Replaces a file in these namespaces only. The text is on an unnamed file system, so nothing remains after the run.
 
-    The file keeps a name there, so that a nested run can do the same.
-    """
+    The file keeps a name there, so that a nested run can do the same."""
     refuse_system()
     folder = temporary_place()
     product = os.path.join(folder, "made")
@@ -185,8 +162,7 @@ def prefer_ipv4() -> bool:
 def add_names(names: str, of_six: str, example: str, address: str) -> None:
     """Makes hosts known by name in these namespaces. `names` contains lines for /etc/hosts, including one for `example`.
 
-    `of_six` adds IPv6 addresses to the names, if the C library prefers IPv4.
-    """
+    `of_six` adds IPv6 addresses to the names, if the C library prefers IPv4."""
     names += of_six * prefer_ipv4()
     try:
         all_names = names + read_system(at_root("/etc/hosts"))
@@ -210,8 +186,7 @@ def why_not(name: str, error: OSError) -> str:
 
 
 def start(words: Sequence[str], mask: Mask, enter_room: Callable[[], None], own_users: bool) -> int:
-    """Starts a command in the room that `enter_room` enters; returns its process. The command blocks the signals in `mask`
-    only."""
+    """Starts a command in the room that `enter_room` enters; returns its process. The command blocks the signals in `mask` only."""
 
     def enter_and_execute() -> int:
         enter_room()

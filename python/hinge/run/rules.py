@@ -56,7 +56,8 @@ class Rule:
 
     def spans(self) -> Iterator[tuple[PortSpan, PortSpan]]:
         """Yields the ports of both ends, for each way to satisfy `port`."""
-        inputs, either = {end: self.short.ports.get(end, EVERY_PORT) for end in ENDS[1]}, self.short.ports.get("port")
+        inputs = {end: self.short.ports.get(end, EVERY_PORT) for end in ENDS[1]}
+        either = self.short.ports.get("port")
         if either is None:
             yield inputs["sport"], inputs["dport"]
             return
@@ -68,11 +69,9 @@ class Rule:
 
     def lines(self, way: int) -> list[str]:
         """Returns the equivalent lines in the plan of a way."""
-        head, dscp = (
-            f"map {way} {int(self.target.kind == 'queue')} {self.target.number}",
-            -1 if self.short.dscp is None else self.short.dscp,
-        )
+        head = f"map {way} {int(self.target.kind == 'queue')} {self.target.number}"
+        dscp = -1 if self.short.dscp is None else self.short.dscp
         return [
-            f"{head} {protocol} {dscp} {net_words(src)} {net_words(dst)} " f"{sport.low} {sport.high} {dport.low} {dport.high}"
+            f"{head} {protocol} {dscp} {net_words(src)} {net_words(dst)} {sport.low} {sport.high} {dport.low} {dport.high}"
             for protocol, (src, dst), (sport, dport) in product(self.short.protocols or (-1,), self.nets(), self.spans())
         ]

@@ -71,7 +71,7 @@ PRESENT = Present()
 
 
 def kept_as_step(do: Call) -> Call:
-    """A call that the present steps keep, where there are some."""
+    """Returns a call that the present steps record, if there are any."""
 
     @wraps(do)
     def either(*words: Any, **more: Any) -> Any:
@@ -82,5 +82,5 @@ def kept_as_step(do: Call) -> Call:
 
 
 def at_root(path: str) -> str:
-    """Where a file of the rooms' system is here."""
+    """Returns the place of a file of the rooms' system."""
     return (PRESENT.steps.root if PRESENT.steps else "") + path

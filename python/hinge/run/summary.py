@@ -5,7 +5,8 @@ from __future__ import annotations
 import re
 from typing import Iterator, Optional, Sequence, Union
 
-from hinge.run.page import COUNTS, ENDED_WELL, Counts, Way
+from hinge.border.terminal import tell
+from hinge.run.page import COUNTS, ENDED_WELL, Counts, Page, Way
 
 NAMES = ("up", "down")
 FORMAT = 1  # of the record; docs/LIVE.md has its keys
@@ -27,8 +28,7 @@ def times(way: Way) -> dict[str, float]:
 def judged(name: str, way: Way, drops: int, limit: float) -> Iterator[str]:
     """Yields the reasons not to trust a direction, with a limit in ms.
 
-    The limit also applies to shares of the time, since a stall may last long but affect few packets.
-    """
+    The limit also applies to shares of the time, since a stall may last long but affect few packets."""
     result = times(way)
     for label in ("late", "unread"):
         value, of_time = result[f"{label}_p99_ms"], result[f"{label}_time_p99_ms"]
@@ -49,7 +49,7 @@ def void(counts: Counts, drops: Sequence[int], limit: Optional[float], names: Se
     links = "the link" if names is NAMES else "the links"
     if counts.slept > LEAST_SLEEP:
         lines.append(f"this machine was suspended for {counts.slept / 1e9:.3f} s")
-    return lines + [f"{links} broke off before the end"] * (counts["state"] != ENDED_WELL)
+    return lines + ([f"{links} broke off before the end"] if counts["state"] != ENDED_WELL else [])
 
 
 LEAST_SLEEP = 10_000_000  # ns
@@ -65,9 +65,14 @@ def cautions(counts: Counts, drops: Sequence[int], plan: str, names: Sequence[st
     delays = [int(delay) for pipe, delay in DELAY.findall(plan) if int(delay) and int(pipe or 0) < second]
     limit = min(delays) / PART_OF_DELAY if delays else WITHOUT_DELAY
     result = [line for name, way, losses in zip(names, counts.ways, drops) for line in judged(name, way, losses, limit)]
-    return [f"{CAUTION}: {line}" for line in result[:MOST_TOLD]] + [
-        f"--late {limit:g}ms makes such a run void" + f", and names {len(result) - MOST_TOLD} more ways" * (len(result) > MOST_TOLD)
-    ] * bool(result)
+    return [f"{CAUTION}: {line}" for line in result[:MOST_TOLD]] + (
+        [
+            f"--late {limit:g}ms makes such a run void"
+            + (f", and names {len(result) - MOST_TOLD} more ways" if len(result) > MOST_TOLD else "")
+        ]
+        if result
+        else []
+    )
 
 
 SELDOM = (
@@ -78,12 +83,10 @@ SELDOM = (
 
 def direction(name: str, way: Way, drops: int) -> str:
     """Returns the counts of a direction. Excessive lateness is reported; the record always contains it."""
-    text = (
-        f"{way['came']} came, {way['sent']} delivered, {way['lost']} lost, {way['full']} met a full queue, {way.underway} under way"
-    )
+    text = f"{way['came']} came, {way['sent']} delivered, {way['lost']} lost, {way['full']} met a full queue"
     seldom = "".join(f", {way[key]} {words}" for key, words in SELDOM if way[key])
-    drops_text = f", the system dropped {drops} before the link and {way['refused']} behind it" * bool(drops or way["refused"])
-    return f"{name}: {text if way['came'] else 'nothing came'}{seldom}{drops_text}"
+    drops_text = f", the system dropped {drops} before the link and {way['refused']} behind it" if drops or way["refused"] else ""
+    return f"{name}: {f'{text}, {way.underway} under way' if way['came'] else 'nothing came'}{seldom}{drops_text}"
 
 
 def line(counts: Counts, drops: Sequence[int]) -> str:
@@ -107,3 +110,24 @@ def record(counts: Counts, drops: Sequence[int], status: Optional[int], seed: in
     ways = [way_record(way, losses) for way, losses in zip(counts.ways, drops)]
     front = {"format": FORMAT, "status": status, "seed": seed, "void": faults}
     return front | host_record(counts) | dict(zip(NAMES, ways))
+
+
+def shown(name: str, before: Way, now: Way) -> str:
+    """Returns a direction's counts between two looks a second apart; the delay is the mean over packets that left."""
+    more = {key: now[key] - before[key] for key in ("sent", "sent_bytes", "stayed", "lost", "full")}
+    delay, rate = more["stayed"] / max(1, more["sent"]) / 1e6, more["sent_bytes"] * 8 / 1e6
+    return f"{name:4} {rate:9.3f} Mbit/s {now['held']:6} in link {delay:9.3f} ms {more['lost'] + more['full']:5} dropped"
+
+
+class Watch:
+    """Prints a line each second with the rates, queues and losses of both directions, for `--watch`."""
+
+    def __init__(self, page: Page) -> None:
+        self.page, self.before = page, page.read()
+
+    def tick(self, at: float) -> None:
+        """Prints the last second; `at` is the time in seconds since the start."""
+        counts = self.page.read()
+        ways = (shown(*way) for way in zip(NAMES, self.before.ways, counts.ways))
+        tell("  | ".join([f"{at:6.1f} s", *ways]))
+        self.before = counts

@@ -6,6 +6,7 @@ import ctypes
 import errno
 import os
 import struct
+from contextlib import suppress
 from typing import Optional
 
 from hinge.border.files import read_system
@@ -13,7 +14,12 @@ from hinge.border.scratch import held
 from hinge.command import FILES, Fault
 from hinge.run.steps import kept_as_step
 
-NEWNS, NEWUTS, NEWUSER, NEWPID, NEWNET = 0x00020000, 0x04000000, 0x10000000, 0x20000000, 0x40000000  # of unshare(2)
+# of unshare(2)
+NEWNS = 0x00020000
+NEWUTS = 0x04000000
+NEWUSER = 0x10000000
+NEWPID = 0x20000000
+NEWNET = 0x40000000
 BIND, REC, PRIVATE = 0x1000, 0x4000, 0x40000  # of mount(2)
 DETACH = 2  # of umount2(2)
 FROM_HERE, EXCHANGE = -100, 2  # of renameat2(2)
@@ -79,8 +85,7 @@ def keep_mounts_to_itself() -> None:
     """Keeps this namespace's mounts from spreading to other namespaces.
 
     The kernel only accepts this at the root of a file system, which a chroot's root isn't. So the call uses the namespace's
-    root.
-    """
+    root."""
     try:
         mount("none", "/", "none", REC | PRIVATE)
     except OSError as error:
@@ -118,10 +123,8 @@ def write(path: str, text: str) -> None:
 @kept_as_step
 def try_to_write(path: str, text: str) -> None:
     """Writes a setting; ignores a setting that doesn't exist or can't be written."""
-    try:
+    with suppress(OSError):
         write(path, text)
-    except OSError:
-        pass
 
 
 def setting(name: str) -> str:

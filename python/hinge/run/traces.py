@@ -114,8 +114,7 @@ def counted(path: str, moments: Moments, bin_ns: int, longest: int) -> list[Rate
     """Returns a rate for each bin of moments; equal rates in a row are merged, and the last bin ends with the period.
 
     Within bins that contain no moment, the longest packet leaves in as much time as they last. Wrong: bins are too long or too
-    many.
-    """
+    many."""
     period = moments[-1] * MS
     if bin_ns > period:
         raise Wrong(f"{path}: the bin is longer than the trace, which begins anew after {moments[-1]} ms")
@@ -130,18 +129,14 @@ def counted(path: str, moments: Moments, bin_ns: int, longest: int) -> list[Rate
         while end < len(counts) - 1 and counts[end] == counts[at] and at < len(counts) - 1:
             end += 1
         length = min(end * bin_ns, period) - at * bin_ns
-        rate = (
-            counts[at] * (end - at) * MAHIMAHI_BYTES * 8 * SECOND // length
-            if counts[at]
-            else max(1, longest * 8 * SECOND // length)
-        )
-        result.append(Rate(at * bin_ns, rate))
+        rate = counts[at] * (end - at) * MAHIMAHI_BYTES * 8 * SECOND // length
+        result.append(Rate(at * bin_ns, rate if counts[at] else max(1, longest * 8 * SECOND // length)))
         at = end
     return result
 
 
 def read_trace(path: str, noted: Callable[[Iterable[str]], Iterable[str]]) -> Trace:
-    """The trace of a file, whose lines are noted. Wrong: the file contains no rows of a trace."""
+    """Returns a file's trace, and notes its lines. Wrong: the file contains no rows of a trace."""
     with untrusted(path):
         rows = rows_of(noted(read_lines(path, None)))
         first = next(rows, None)

@@ -53,13 +53,9 @@ def told(transcript: str, count: int) -> Iterator[str]:
     """Yields lines about the files for the user."""
     parts = [] if transcript.startswith(f"{KEPT}/") else parts_of(transcript, count)
     if len(parts) > 1:
-        yield (
-            f"the transcript is in {count} files, of which each is audited by itself: {parts[0]},"
-            f" {parts[1]}{' ..' if count > 2 else ''}"
-        )
+        some = f"{parts[0]}, {parts[1]}{' ..' if count > 2 else ''}"
+        yield f"the transcript is in {count} files, of which each is audited by itself: {some}"
     for part in parts:
         if os.path.exists(part) and (size := os.path.getsize(part)) > AUDITED:
-            yield (
-                f"{part} has {size} bytes, since the link was never idle; its audit: dummynet audit --most-history"
-                f" {size} {part}"
-            )
+            audit = f"dummynet audit --most-history {size} {part}"
+            yield f"{part} has {size} bytes, since the link was never idle; its audit: {audit}"

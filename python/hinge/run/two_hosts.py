@@ -31,10 +31,8 @@ OWN = Ends("10.8.0.1", "10.8.0.2", "fd08::1", "fd08::2", "10.8.0.0/24", 24)
 
 
 def ends_of(text: str | None) -> Ends:
-    """Returns the first two addresses of a network. Their IPv6 addresses are in fd08::, numbered like the network.
-
-    Wrong: the text is no such network.
-    """
+    """Returns the first two addresses of a network. Their IPv6 addresses are in fd08::, numbered like the network. Wrong: the text
+    is no such network."""
     if text is None:
         return OWN
     try:

@@ -1,7 +1,6 @@
 """The users of the rooms: this process's user, and subordinate users if the system provides some (subuid(5)).
 
-Servers then find the groups to which they assign files, such as the group of terminals.
-"""
+Servers then find the groups to which they assign files, such as the group of terminals."""
 
 from __future__ import annotations
 
@@ -9,6 +8,7 @@ import grp
 import os
 import pwd
 import shutil
+from contextlib import suppress
 from typing import NamedTuple, Optional
 
 from hinge.border.files import read_system
@@ -29,10 +29,8 @@ class Subordinate(NamedTuple):
 def subordinate(path: str, user: int) -> Optional[Subordinate]:
     """Returns the first range for a user in a file, which lists names or numbers."""
     names = {str(user)}
-    try:
+    with suppress(KeyError):
         names.add(pwd.getpwuid(user).pw_name)
-    except KeyError:
-        pass
     try:
         rows = [line.strip().split(":") for line in read_system(path).splitlines()]
     except OSError:
@@ -51,8 +49,7 @@ def mapping(own: int, span: Subordinate) -> list[str]:
 class Users:
     """Maps users. Create it before the process leaves the system's users.
 
-    A child process stays behind, and maps the new namespace's users on request.
-    """
+    A child process stays behind, and maps the new namespace's users on request."""
 
     def __init__(self) -> None:
         self.child, self.own = 0, {"uid": os.geteuid(), "gid": os.getegid()}
@@ -96,12 +93,9 @@ class Users:
 def make_terminals() -> None:
     """Gives this process a new set of terminals that belongs to the terminals' group, as a login requires.
 
-    If the system refuses, the process keeps the system's terminals.
-    """
-    try:
+    If the system refuses, the process keeps the system's terminals."""
+    with suppress(KeyError, OSError):
         group = grp.getgrnam("tty").gr_gid
         unshare(NEWNS)
         mount("devpts", TERMINALS, "devpts", 0, f"newinstance,ptmxmode=0666,mode=0620,gid={group}")
         mount(f"{TERMINALS}/ptmx", TERMINAL_MAKER, "none", BIND)
-    except (KeyError, OSError):
-        pass

@@ -37,13 +37,12 @@ def late_acts(acts: Sequence[Done], main: Optional[int], limit: float) -> Iterat
 
 
 def some(kind: str, texts: Iterable[str]) -> Iterator[str]:
-    """Yields one line with the first few texts (MOST_TOLD) and the number of further texts, or no line if there are no texts.
-    The further texts are counted without being kept in memory.
-    """
+    """Yields one line with the first few texts (MOST_TOLD) and the number of further texts, or no line if there are no texts. The
+    further texts are counted without being kept in memory."""
     rest = iter(texts)
     if first := [*islice(rest, MOST_TOLD)]:
         more = sum(1 for _ in rest)
-        yield f"{kind}: {', '.join(first)}" + f" and {more} more" * bool(more)
+        yield f"{kind}: {', '.join(first)}" + (f" and {more} more" if more else "")
 
 
 class Awaited(NamedTuple):
@@ -94,7 +93,8 @@ def verdict(
     """Applies the limit from --late in ms, if any; in simulated time nothing can be late. `others` returns remarks on lateness
     above a limit in ms that links didn't cause."""
     missed = [*awaited.missed(counts, names)]
-    more, remarks = others(WITHOUT_LIMIT if limit is None else limit), [f"CAUTION, {line}" for line in awaited.remarks(counts)]
+    more = others(WITHOUT_LIMIT if limit is None else limit)
+    remarks = [f"CAUTION, {line}" for line in awaited.remarks(counts)]
     if limit is not None:
         return Verdict(void(counts, drops, limit, names) + more + missed, remarks)
     of_links = cautions(counts, drops, plan, names) if may_be_late and not is_simulated() else []
@@ -128,7 +128,8 @@ class Waits:
         """Adds the total waiting time of a host's programs in ms. A smaller total follows a restart."""
         if total is not None:
             more = total - self.before.get(host, 0.0)
-            self.before[host], more = total, more if more >= 0 else total
+            self.before[host] = total
+            more = more if more >= 0 else total
             self.totals[host] = self.totals.get(host, 0.0) + more
             self.most[host] = max(self.most.get(host, 0.0), more / lasting)
 
@@ -138,14 +139,13 @@ class Waits:
     def over(self, limit: float) -> list[str]:
         """Returns the hosts that waited for more than a share of the time, and in some second for more than the limit in ms."""
         ran = time.monotonic() - self.begun
-        hosts = sorted(
-            (-total, host) for host, total in self.totals.items() if total > PART * ran * 1e3 and self.most[host] > limit
-        )
+        over = {host: ms for host, ms in self.totals.items() if ms > PART * ran * 1e3 and self.most[host] > limit}
+        hosts = sorted(over, key=lambda host: (-over[host], host))
+        much = f"over {limit:g} ms in a second"
         lines = [
-            f"programs of {host} waited {-total:.0f} ms of {ran:.1f} s for a processor (over {limit:g} ms in a second)"
-            for total, host in hosts[:MOST_TOLD]
+            f"programs of {host} waited {over[host]:.0f} ms of {ran:.1f} s for a processor ({much})" for host in hosts[:MOST_TOLD]
         ]
-        return lines + [f"so did those of {len(hosts) - MOST_TOLD} more hosts"] * (len(hosts) > MOST_TOLD)
+        return lines + ([f"so did those of {len(hosts) - MOST_TOLD} more hosts"] if len(hosts) > MOST_TOLD else [])
 
 
 def waited_of(process: int) -> Optional[float]:

@@ -10,8 +10,8 @@ from typing import Callable, Iterator, NamedTuple, Optional
 from hinge.arguments import is_number
 from hinge.border.files import MOST_LINES, MOST_SAID, lines_in
 from hinge.command import USAGE, Fault
-from hingetulip_words.advice import CHANGES, line_meant
-from hingetulip_words.link import Extra, Link, Place, WordError, corrected, read_words
+from hinge.events.forms import CHANGES, line_meant
+from hingetulip_words.link import Extra, LinkWords, Place, WordError, corrected, read_words
 
 WAYS = {"up": 0, "down": 1}
 LINES = ("pipe", "queue", "ipfw")  # what a configuration line begins with
@@ -118,7 +118,7 @@ def read_alone(word: str) -> dict[str, str]:
         return {}
 
 
-def of_such_words(text: str) -> Optional[Link]:
+def of_such_words(text: str) -> Optional[LinkWords]:
     """Returns the link if each word describes a property by itself, without repetitions. Long files consist mostly of such links,
     and seldom repeat a text."""
     options: dict[str, str] = {}
@@ -127,17 +127,17 @@ def of_such_words(text: str) -> Optional[Link]:
         if not more or more.keys() & options:
             return None
         options.update(more)
-    return Link(options, NO_EXTRA)
+    return LinkWords(options, NO_EXTRA)
 
 
-def link_of(text: str, option: str, place: Place = Place.CHANGE) -> Link:
+def link_of(text: str, option: str, place: Place = Place.CHANGE) -> LinkWords:
     """Returns the link for `10Mbit/s 20ms queue 100 loss 1%`. Wrong: the text is no link; the message names `option` and
     corrects the whole text."""
     try:
         return of_such_words(text) or read_once(text, place)
     except WordError as wrong:
         whole = corrected(text, place)
-        raise Wrong(f"{option}: {wrong}" + f"; in full: '{whole}'" * (whole not in (None, wrong.right()))) from None
+        raise Wrong(f"{option}: {wrong}" + (f"; in full: '{whole}'" if whole not in (None, wrong.right()) else "")) from None
 
 
 class Target(NamedTuple):

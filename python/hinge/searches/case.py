@@ -4,7 +4,7 @@ from __future__ import annotations
 
 import re
 from dataclasses import dataclass, replace
-from typing import Any, Iterable, Iterator, NamedTuple, Optional, Sequence
+from typing import Any, Callable, Iterable, Iterator, NamedTuple, Optional, Sequence
 
 from hinge.events.kinds import TimedEvent, fault_ends
 from hinge.net.description import read_description
@@ -14,7 +14,8 @@ from hinge.simulated.pauses import Paused
 
 LONGEST_PACKET = 1500
 LOSS = re.compile(r"\s(?:loss|plr) \S+")
-LINKS, LOSSES = re.compile(r"(link|switch|--(link|up|down|line))[ =]"), re.compile(r"(--)?loss[ =]")
+LINKS = re.compile(r"(link|switch|--(link|up|down|line))[ =]")
+LOSSES = re.compile(r"(--)?loss[ =]")
 
 
 class Part(NamedTuple):
@@ -36,9 +37,6 @@ class Case:
     seed: int
     lines: "tuple[str, ...]"  # of a net, or an option with its word each
     parts: "tuple[Part, ...]"
-
-    def with_parts(self, parts: "tuple[Part, ...]") -> Case:
-        return replace(self, parts=parts)
 
     def of_kind(self, kind: str) -> "tuple[Part, ...]":
         return tuple(part for part in self.parts if part.kind == kind)
@@ -121,3 +119,39 @@ def case_of(what: "list[str]", seed: int, record: "dict[str, Any]", lost: "Optio
     losses = [Part("losses", (line,)) for line in (words if lost is None else lost)]
     pauses = (Paused(**one).given().word() for one in record.get("pauses", {}).get("first", ()))
     return Case(seed, lines, (*faults, *(Part("pauses", (word,)) for word in pauses), *losses))
+
+
+Fails = Callable[[Case], bool]
+
+
+def without(parts: "tuple[Part, ...]", left_out: "tuple[Part, ...]") -> "tuple[Part, ...]":
+    return tuple(part for part in parts if part not in left_out)
+
+
+def least(case: Case, fails: Fails) -> Case:
+    """Returns a failing case from which no part can be removed without a pass. It tries to leave out faults, then pauses, then
+    losses, many at a time before single ones."""
+    before = None
+    while before != case:
+        before = case
+        for kind in KINDS:
+            case = least_of_kind(case, kind, fails)
+    return case
+
+
+def least_of_kind(case: Case, kind: str, fails: Fails) -> Case:
+    size = len(case.of_kind(kind))
+    while size:
+        case = left_out_by(case, kind, size, fails)
+        size = min(size // 2, len(case.of_kind(kind)))
+    return case
+
+
+def left_out_by(case: Case, kind: str, size: int, fails: Fails) -> Case:
+    """Returns the case without each group of neighbours that can go, from the last, since parts after the failure have no effect."""
+    parts = case.of_kind(kind)
+    for first in range(len(parts) - size, -size, -size):
+        smaller = replace(case, parts=without(case.parts, parts[max(first, 0) : first + size]))
+        if fails(smaller):
+            case = smaller
+    return case

@@ -3,18 +3,83 @@ program."""
 
 from __future__ import annotations
 
-from typing import Iterator, NamedTuple
+import re
+from collections import Counter
+from pathlib import Path
+from typing import Iterator, NamedTuple, Optional
 
+from hinge.net.description import read_description
+from hinge.replays.replay import PROTOCOLS
+from hinge.run.plan_of_options import LINKS
 from hinge.searches.case import Case
-from hinge.searches.losses import Lost, losses_in, way_names
 from hinge.searches.runs import RunFiles, Runner, SummarizedRun
-from hinge.simulated.calls_kept import KEPT, CallRow, around, call_rows, pauses_in
-from hinge.simulated.machine import ALL, BOOTED, NONE, OF_DEADLOCKS, Machine
+from hinge.simulated.calls_kept import CALLS, CallRow, around, call_rows, pauses_in
+from hinge.simulated.machine import ALL_CORES, BOOTED, NO_CORES, OF_DEADLOCK, Machine
 from hinge.simulated.pauses import given
 from hinge.simulated.places import has_debugger, innermost
-from hinge.simulated.start import HISTORY
+from hinge.simulated.start import MACHINE_HISTORY
 
+SUBMIT = re.compile(r"c,\d+,submit,(pipe|queue),(\d+),")
+LOST = "r,lost"
+CONFIGURED = re.compile(r"c,\d+,configure,pipe (\d+) config(?P<cut>.* plr 1(?![.\d]))?")
+MOST_LOST = 2000  # lost packets that a search leaves out one by one
+WORDS = ("--loss up:list:", "--loss down:list:")
 MOST = 4  # lost packets and pauses that are told
+
+
+class Lost(NamedTuple):
+    way: int
+    packet: int  # among those of its way, from 1
+    row: str  # of the transcript, behind the pipe
+
+    def text(self, name: str) -> str:
+        source, target, protocol, port, to, length, _, moment = self.row.split(",")
+        what = PROTOCOLS.get(int(protocol), f"protocol {protocol}")
+        ends = (
+            f"{source} > {target}",
+            f"[{source}]:{port} > [{target}]:{to}" if ":" in source else f"{source}:{port} > {target}:{to}",
+        )
+        return f"lost: {name} packet {self.packet} at {int(moment) / 1e9:.9f} s, {what} {ends[port + to != '00']}, {length} bytes"
+
+
+def way_names(what: "list[str]") -> "list[str]":
+    """Returns the names of a net's ways, or both ways of `hinge run`."""
+    return read_description(what[1]).ways() if what[0] == "net" else [*LINKS]
+
+
+def packets_lost(paths: "list[Path]", ways: int) -> "Optional[list[Lost]]":
+    """Returns the lost packets on these ways; None if packets also met queues, which changes their numbers, or if there are too
+    many. A cut's losses belong to the cut, which a search leaves out separately."""
+    count = Counter[int]()
+    losses = list[Lost]()
+    way = -1
+    cuts = set[int]()
+    row = ""
+    for line in (line for path in paths for line in path.open(encoding="utf-8", errors="replace")):
+        if one := SUBMIT.match(line):
+            if one[1] == "queue":
+                return None
+            way, row = int(one[2]) - 1, line[one.end() :].rstrip()
+            count[way] += 1
+        elif one := CONFIGURED.match(line):
+            (cuts.add if one["cut"] else cuts.discard)(int(one[1]) - 1)
+        elif line.startswith(LOST) and way < ways and way not in cuts:
+            losses.append(Lost(way, count[way], row))
+    return losses if len(losses) <= MOST_LOST else None
+
+
+def lines_of_losses(what: "list[str]", losses: "list[Lost]") -> Iterator[str]:
+    """Yields an option or a net's line for each packet."""
+    names = way_names(what)
+    for one in losses:
+        begin = f"loss {names[one.way].replace(' > ', ' ')} up:list:" if what[0] == "net" else WORDS[one.way]
+        yield f"{begin}{one.packet}"
+
+
+def losses_in(what: "list[str]", machine: Machine) -> "Optional[list[Lost]]":
+    """Returns the lost packets of a machine's transcript."""
+    paths = sorted(machine.room.kept.glob(f"{MACHINE_HISTORY}*"), key=lambda path: (len(path.name), path.name))
+    return packets_lost(paths, len(way_names(what)))
 
 
 class Repetition(NamedTuple):
@@ -28,11 +93,11 @@ class Repetition(NamedTuple):
 def repetition_of(runner: Runner, case: Case) -> Repetition:
     """Looks at the lost packets in a run with a transcript, which would change the summary."""
     rows, losses = list[CallRow](), list[Lost]()
-    cores = OF_DEADLOCKS if has_debugger() else NONE
-    ran = runner.case(case, RunFiles((f"keep {KEPT}",), cores), lambda machine: rows.extend(call_rows(machine.folder / "calls")))
+    cores = OF_DEADLOCK if has_debugger() else NO_CORES
+    ran = runner.case(case, RunFiles((f"keep {CALLS}",), cores), lambda machine: rows.extend(call_rows(machine.folder / "calls")))
     if case.of_kind("losses"):
         what = runner.asked.what
-        runner.case(case, RunFiles(transcript=HISTORY), lambda machine: losses.extend(losses_in(what, machine) or ()))
+        runner.case(case, RunFiles(transcript=MACHINE_HISTORY), lambda machine: losses.extend(losses_in(what, machine) or ()))
     return Repetition(ran, rows, losses)
 
 
@@ -45,7 +110,7 @@ def pause_place(runner: Runner, case: Case, call: int, process: int) -> str:
         texts.append(innermost(machine.folder, process, machine.root))
 
     if has_debugger():
-        runner.case(case, RunFiles((f"core {call}",), ALL), look)
+        runner.case(case, RunFiles((f"core {call}",), ALL_CORES), look)
     return "".join(texts)
 
 

@@ -2,9 +2,9 @@
 
 from __future__ import annotations
 
-from concurrent.futures import ThreadPoolExecutor, as_completed
+from concurrent.futures import FIRST_COMPLETED, Future, ThreadPoolExecutor, wait
 from pathlib import Path
-from typing import Any, Callable, NamedTuple, Optional, Sequence
+from typing import Any, Callable, Iterator, NamedTuple, Optional, Sequence
 
 from hinge.border.files import read_object
 from hinge.border.scratch import scratch, undisturbed
@@ -15,14 +15,15 @@ from hinge.run.settings import SimulatedOptions
 from hinge.searches.case import Case
 from hinge.simulated.failures import file_beside
 from hinge.simulated.job import real_limit_of, refuse_outside
-from hinge.simulated.kernel import found
-from hinge.simulated.machine import NONE, SIGNALLED, Machine
+from hinge.simulated.kernel import usable_kernel
+from hinge.simulated.machine import NO_CORES, SIGNALLED, Machine
 from hinge.simulated.start import planned, reported
 
 NO_RUN = "no run of a search"
 OUTPUT = 10_000  # the last letters of what a run printed that are kept
 REFUSED = 6
 WELL = "status 0"
+LOOK_EACH = 0.5  # s: the longest wait for a run, as Python handles a signal that comes just before a wait after the wait
 LONGEST = "86400s"  # of simulated time, after which a run goes on for ever, where --limit says nothing
 
 
@@ -41,12 +42,11 @@ class SearchSettings(NamedTuple):
 
 
 class RunFiles(NamedTuple):
-    """Settings for a run whose machine a search examines afterwards: extra lines for /proc/pauses, the processes that leave a
-    core, and the transcript's path.
-    """
+    """Settings for a run whose machine a search examines afterwards: extra lines for /proc/pauses, the processes that leave a core,
+    and the transcript's path."""
 
     more: "tuple[str, ...]" = ()  # as in Settings
-    cores: str = NONE
+    cores: str = NO_CORES
     transcript: Optional[str] = None
 
 
@@ -83,10 +83,10 @@ class SummarizedRun(NamedTuple):
             for name, one in servers.items()
             if one and one["by"] == "itself" and one["status"]
         ]
-        return [*ends, *["a second run may differ"] * (self.has_run and self.record.get("repeatable") is False)]
+        return [*ends, *(["a second run may differ"] if self.has_run and self.record.get("repeatable") is False else [])]
 
     def told(self) -> str:
-        void = "void: " * bool(self.record.get("void"))
+        void = "void: " if self.record.get("void") else ""
         return f"{void}{self.name or f'status {self.status}'}: {self.last_line()}".rstrip(": ")
 
     def last_line(self) -> str:
@@ -114,7 +114,7 @@ class Runner:
     """Makes runs, each in a separate machine. No machine outlives the runner."""
 
     def __init__(self, options: SearchSettings) -> None:
-        self.asked, self.kernel, self.running, self.is_over = options, found(), set[Machine](), False
+        self.asked, self.kernel, self.running, self.is_over = options, usable_kernel(), set[Machine](), False
 
     def run(
         self, what: "Sequence[str]", seed: int, pauses: Optional[str], watch: RunFiles = PLAIN, look: Optional[Look] = None
@@ -153,6 +153,13 @@ class Runner:
             return self.run(["run", *case.options()], case.seed, case.pauses(), watch, look)
         with file_beside(self.asked.net, case.net()) as file:
             return self.run(["net", str(file)], case.seed, case.pauses(), watch, look)
+
+
+def completed(tasks: "set[Future[None]]") -> "Iterator[Future[None]]":
+    """Yields the tasks as they end."""
+    while tasks:
+        results, tasks = wait(tasks, LOOK_EACH, FIRST_COMPLETED)
+        yield from results
 
 
 class Runs:
@@ -199,7 +206,7 @@ class Runs:
         bar = Bar("runs", len(todo))
         with ThreadPoolExecutor(at_once) as pool:
             try:  # around what submits them, as the first run may have begun when a signal comes
-                for task in as_completed([pool.submit(self.make, seed) for seed in todo]):
+                for task in completed({pool.submit(self.make, seed) for seed in todo}):
                     task.result()
                     bar.step()
             except BaseException:

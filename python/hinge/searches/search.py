@@ -11,21 +11,19 @@ from hinge.border.scratch import Ended
 from hinge.border.terminal import several, show
 from hinge.command import Fault, say
 from hinge.outputs import writing
-from hinge.searches.case import Case, case_of
-from hinge.searches.cause import cause_lines, repetition_of
-from hinge.searches.losses import Lost, lines_of_losses, losses_in
+from hinge.searches.case import Case, case_of, least
+from hinge.searches.cause import Lost, cause_lines, lines_of_losses, losses_in, repetition_of
 from hinge.searches.runs import RunFiles, Runner, Runs, SearchSettings, command_words
-from hinge.searches.shrinking import least
-from hinge.simulated.failures import NET, WORDS
-from hinge.simulated.start import HISTORY
+from hinge.simulated.failures import NET_KEY, WORDS_KEY
+from hinge.simulated.start import MACHINE_HISTORY
 
 FAILED, NOT_AGAIN = 1, 76
 
 
 def write_failure(path: str, words: "list[str]", net: Optional[str], record: "dict[str, Any]") -> None:
-    lines = {} if net is None else {NET: net.splitlines()}
+    lines = {} if net is None else {NET_KEY: net.splitlines()}
     with writing(path) as file:
-        file.write(json.dumps({WORDS: words, **lines, **record}, indent=1) + "\n")
+        file.write(json.dumps({WORDS_KEY: words, **lines, **record}, indent=1) + "\n")
 
 
 def show_runs(runs: Runs, numbers: "list[int]") -> "list[int]":
@@ -51,7 +49,7 @@ def cases_of(runner: Runner, seed: int, record: "dict[str, Any]") -> "Iterator[C
     """Yields a failing seed's cases: with a line for each lost packet, and with the words for losses."""
     losses: "list[Optional[list[Lost]]]" = []
     what, pauses = runner.asked.what, runner.asked.pauses
-    runner.run(what, seed, pauses, RunFiles(transcript=HISTORY), lambda machine: losses.append(losses_in(what, machine)))
+    runner.run(what, seed, pauses, RunFiles(transcript=MACHINE_HISTORY), lambda machine: losses.append(losses_in(what, machine)))
     if losses[0] is not None:
         yield case_of(what, seed, record, list(lines_of_losses(what, losses[0])))
     yield case_of(what, seed, record)
@@ -69,11 +67,8 @@ def smallest(runs: Runs, seed: int) -> "tuple[Case, int]":
 
     whole = next(filter(fails, cases_of(runner, seed, ran.record)), None)
     if whole is None:
-        raise Fault(
-            f"seed {seed} fails, but not with its faults as lines and its pauses one by one: "
-            f"{command_of(runner.asked, runner.asked.what, seed, runner.asked.pauses)}",
-            NOT_AGAIN,
-        )
+        line = command_of(runner.asked, runner.asked.what, seed, runner.asked.pauses)
+        raise Fault(f"seed {seed} fails, but not with its faults as lines and its pauses one by one: {line}", NOT_AGAIN)
     return least(whole, fails), len(trial)
 
 
@@ -92,10 +87,9 @@ def tell_least(runner: Runner, name: str, case: Case, count: int, file: Path) ->
     for line in cause_lines(runner, case, look):
         show(line)
     show(f"seed {case.seed} fails by {name} with {case.told()}, found in {several(count, 'run')}")
-    sure = (
-        "repeats it, here and elsewhere" if look.ran.record.get("repeatable") else "may repeat it: the run says why it may differ"
-    )
-    show(f"hinge {what[0]} --like {shlex.quote(str(file))} {sure}")
+    is_sure = look.ran.record.get("repeatable")
+    repeats = "repeats it, here and elsewhere" if is_sure else "may repeat it: the run says why it may differ"
+    show(f"hinge {what[0]} --like {shlex.quote(str(file))} {repeats}")
 
 
 def search(options: SearchSettings, seeds: list[int], at_a_time: int, failure: Path, folder: Path) -> int:

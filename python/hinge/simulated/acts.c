@@ -2,6 +2,7 @@
 #define _GNU_SOURCE
 #include <ctype.h>
 #include <dirent.h>
+#include <errno.h>
 #include <signal.h>
 #include <stdio.h>
 #include <stdlib.h>
@@ -50,14 +51,9 @@ static void kill_all(struct net *net, const struct host *host) {
 
 /* --- acts --- */
 
-static const char *ending_of(const char *word) {
-    if (!strcmp(word, "kill") || !strcmp(word, "crash")) return "restart";
-    return strcmp(word, "stop") ? NULL : "cont";
-}
-
 bool goes_on(const struct net *net, const struct host *host, const char *end) {
     for (const struct act *act = net->acts; act < net->acts + net->act_count; act++)
-        if (act->lasts && net->hosts + act->host == host && !strcmp(ending_of(act->word), end)) return true;
+        if (act->lasts && net->hosts + act->host == host && !strcmp(act->ending, end)) return true;
     return false;
 }
 
@@ -70,10 +66,10 @@ bool is_awaited(const struct net *net, const struct host *host) {
 /* Whether an act ends a fault of its host, and another one of its kind goes on. One that was written as such ends all of them. */
 static bool is_held(struct net *net, struct act *end) {
     bool is_own = !end->fault;
-    if (ending_of(end->word)) end->lasts = true;
-    if (ending_of(end->word) || !strcmp(end->word, "skew")) return false;
+    end->lasts = *end->ending != 0;
+    if (end->lasts) return false;
     for (struct act *act = net->acts; act < net->acts + net->act_count; act++)
-        if (act->lasts && act->host == end->host && !strcmp(ending_of(act->word), end->word) && (!end->fault || act->fault == end->fault))
+        if (act->lasts && act->host == end->host && !strcmp(act->ending, end->word) && (!end->fault || act->fault == end->fault))
             act->lasts = false, is_own = true;
     return !is_own || (end->fault && goes_on(net, net->hosts + end->host, end->word));
 }
@@ -84,19 +80,20 @@ static void do_act(struct net *net, const struct act *act, struct host *host) {
     if (!strcmp(act->word, "skew")) tell("/proc/clocks", text);
     else if (!strcmp(act->word, "stop")) send_to_all(net, host, SIGSTOP);
     else if (!strcmp(act->word, "cont")) send_to_all(net, host, SIGCONT);
-    else kill_all(net, host);
+    else if (!strcmp(act->word, "kill") || !strcmp(act->word, "restart")) kill_all(net, host);
+    else errno = ENOSYS, stop(act->word);
     if (!strcmp(act->word, "restart")) begin(net, host);
 }
 
 static void carry_out(struct net *net, struct act *act) {
     char text[200];
     struct host *host = net->hosts + act->host;
-    bool is_fault = ending_of(act->word) && !goes_on(net, host, "restart");
+    bool is_fault = *act->ending && !goes_on(net, host, "restart");
     act->is_pending = false;
     if (is_held(net, act)) return;
     bool met_nothing = is_fault && send_to(net, host, 0) == 0;
     reap(&net->run);
-    if (is_fault && strcmp(act->word, "stop") != 0) host->has_ended = host->child.is_over;
+    if (is_fault && !strcmp(act->ending, "restart")) host->has_ended = host->child.is_over;
     do_act(net, act, host);
     reap(&net->run);
     snprintf(text, sizeof text, "line remark act,%s %s", act->word, host->name);

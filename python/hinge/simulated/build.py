@@ -15,7 +15,7 @@ from hinge.border.scratch import scratch
 from hinge.border.terminal import tell
 from hinge.command import MISSING, Bar, Fault, say
 from hinge.run.system import Missing, die_with_parent, exchange
-from hinge.simulated.kernel import CONFIG, INIT, PATCH, VERSION, Kernel, cache, folder_of
+from hinge.simulated.kernel import CONFIG, INIT, PATCH, BUILD_VERSION, Kernel, cache, folder_of
 from hinge.simulated.opened_files import sha256_of
 
 PACKAGES = Path("/usr/src")
@@ -24,7 +24,7 @@ NEEDED = {name: package or name for name, _, package in (word.partition("=") for
 ROOM = 2_000_000_000  # bytes that a build takes
 MADE = re.compile(r"^  (?:CC|LD|AR|AS|GEN|HOSTCC|HOSTLD|LEX|YACC|UPD|LDS|OBJCOPY|MKCAP|CHK|SYSHDR|SYSTBL|WRAP)\s")
 ABOUT = 1050  # such lines of a whole build
-WORDS = 30  # lines of a failed step that are told
+LAST_LINES = 30  # lines of a failed step that are told
 FAILED = 6
 
 
@@ -44,7 +44,7 @@ def has_static_library() -> bool:
     return shutil.which("cc") is not None and os.path.isabs(asked(words).text)
 
 
-def lacking(place: Optional[Path]) -> dict[str, str]:
+def missing_packages(place: Optional[Path]) -> dict[str, str]:
     """Returns everything that a build from this source lacks, with the Debian packages that contain it."""
     names = {name: package for name, package in NEEDED.items() if shutil.which(name) is None}
     if not has_static_library():
@@ -58,7 +58,7 @@ class Build:
     """A build in a temporary folder."""
 
     def __init__(self, place: Optional[Path], jobs: int) -> None:
-        names = lacking(place)
+        names = missing_packages(place)
         if place is None or names:
             raise Fault(f"needs {', '.join(names)}: apt-get install {' '.join(names.values())}", MISSING)
         if not place.is_file():
@@ -67,13 +67,14 @@ class Build:
 
     def step(self, what: str, *words: "str | Path", where: Path) -> None:
         """Runs a command. Fault: the command failed; its last lines are printed first."""
-        names = {"PATH": os.environ["PATH"], "HOME": str(where), "TMPDIR": str(where), "LC_ALL": "C", "ARCH": "um", **VERSION}
-        bar, last = Bar(f"steps of the build ({what})", ABOUT), list[str]()
+        names = {"PATH": os.environ["PATH"], "HOME": str(where), "TMPDIR": str(where), "LC_ALL": "C", "ARCH": "um", **BUILD_VERSION}
+        bar = Bar(f"steps of the build ({what})", ABOUT)
+        last = list[str]()
         how: dict[str, Any] = {"cwd": where, "env": names, "stdin": NOTHING, "stdout": PIPE, "stderr": SAME, "errors": "replace"}
         with begun([*map(str, words)], text=True, preexec_fn=begin_group, **how) as process, ExitStack() as behind:
             behind.callback(end_group, process)  # where a signal came
             for line in process.stdout or ():
-                last = [*last[-WORDS:], line]
+                last = [*last[-LAST_LINES:], line]
                 if MADE.match(line) and bar.done < ABOUT - 1:
                     bar.step()
             behind.pop_all()

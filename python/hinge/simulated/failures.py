@@ -15,7 +15,7 @@ if TYPE_CHECKING:
     from pathlib import Path
 
 LIKE = "--like"
-WORDS, NET = "words", "net"  # what the file has beside the summary
+WORDS_KEY, NET_KEY = "words", "net"  # what the file has beside the summary
 TRIES = 100  # to share a file that another run is writing or removing
 
 
@@ -34,7 +34,8 @@ def shared(file: Path, data: bytes) -> BinaryIO:
         except FileNotFoundError:  # the last run of the text has just removed it
             continue
         fcntl.flock(held, fcntl.LOCK_SH)
-        is_there, text = os.fstat(held.fileno()).st_nlink > 0, held.read(len(data) + 1)
+        is_there = os.fstat(held.fileno()).st_nlink > 0
+        text = held.read(len(data) + 1)
         if is_there and text == data:
             return held
         held.close()
@@ -79,7 +80,7 @@ def failure_in(words: "list[str]") -> "dict[str, Any]":
         record = read_object(path, "no summary")
     except (OSError, Fault):
         return {}  # which is told where the file is compared
-    return record if isinstance(record.get(WORDS), list) else {}
+    return record if isinstance(record.get(WORDS_KEY), list) else {}
 
 
 def failure_command(words: "list[str]", command: str) -> "list[str]":
@@ -88,7 +89,7 @@ def failure_command(words: "list[str]", command: str) -> "list[str]":
     record = failure_in(words)
     if not record:
         return words
-    first, *others = map(str, record[WORDS])
+    first, *others = map(str, record[WORDS_KEY])
     if first != command:
         raise Fault(
             f"{LIKE} {like_file(words)}: it is a failure of `hinge {first}`: hinge {first} {LIKE} {like_file(words)}", USAGE
@@ -102,7 +103,8 @@ def failure_command(words: "list[str]", command: str) -> "list[str]":
 @contextmanager
 def repeated_net(words: "list[str]") -> "Iterator[list[str]]":
     """Yields the same for `hinge net`. The net is in the file, and is written beside the file for the duration."""
-    lines, result = failure_in(words).get(NET), failure_command(words, "net")
+    lines = failure_in(words).get(NET_KEY)
+    result = failure_command(words, "net")
     if not isinstance(lines, list):
         yield result
         return

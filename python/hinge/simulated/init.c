@@ -55,6 +55,7 @@ _Noreturn void stop(const char *what) {
     char text[700];
     snprintf(text, sizeof text, "%s: %s\n", what, strerror(errno));
     tell(FOLDER "/fault", text);
+    kill(-1, SIGKILL); /* or the kernel waits for those of the rooms without end */
     switch_off();
 }
 

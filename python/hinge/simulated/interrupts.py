@@ -49,7 +49,9 @@ def looked(process: int) -> Optional[Look]:
 class Interrupts:
     def __init__(self, machine: int) -> None:
         """Interrupts the processes of the machine whose kernel is this process."""
-        self.machine, self.count, self.last = machine, 0, dict[int, Look]()
+        self.machine = machine
+        self.count = 0
+        self.last = dict[int, Look]()
         self.longest = 0.0  # s of processor time that a process computed without a call, as far as it was seen
 
     def looks(self) -> Iterator[tuple[int, Look]]:
@@ -74,7 +76,8 @@ class Interrupts:
             if self.is_long(before, look):
                 os.kill(process, signal.SIGALRM)
                 self.count += 1
-                pause, now[process] = SHORT, look._replace(is_interrupted=True)
+                pause = SHORT
+                now[process] = look._replace(is_interrupted=True)
             else:
                 now[process] = before if look.waits == before.waits and not before.is_interrupted else look
         self.last = now

@@ -15,7 +15,7 @@ from hinge.run.system import Missing
 from hinge.run.words import Wrong, duration
 
 PACKAGES = str(Path(__file__).resolve().parents[2])
-OWN = ("/dev", "/proc", "/run", "/sys")  # folders that the machine has of its own
+OWN_FOLDERS = ("/dev", "/proc", "/run", "/sys")  # folders that the machine has of its own
 # What differs by how a shell starts a command.
 OF_SHELLS = {"_", "OLDPWD", "SHLVL"}
 # What names sockets and terminals of the system, which aren't in the machine, or differs from login to login.
@@ -40,7 +40,7 @@ class Job(NamedTuple):
         """Returns the settings, user, folder, command, environment and rooms as NUL-terminated strings, which the machine's
         first process reads.
         """
-        user = [str(os.getuid()), str(os.getgid()), " ".join(map(str, os.getgroups())), f"{mask():o}"]
+        user = [str(os.getuid()), str(os.getgid()), " ".join(map(str, os.getgroups())), f"{current_mask():o}"]
         words = [*settings, *user, folder(), str(len(self.words)), *self.words, *self.names, "", *(self.rooms or ["command"])]
         return words_in_bytes(words)
 
@@ -61,7 +61,7 @@ def words_in_bytes(words: Sequence[str]) -> bytes:
     return b"".join(os.fsencode(word) + b"\0" for word in words)
 
 
-def mask() -> int:
+def current_mask() -> int:
     """Returns the file mode creation mask."""
     present = os.umask(0o022)
     os.umask(present)
@@ -78,8 +78,8 @@ def environment(is_clean: bool) -> list[str]:
 def folder() -> str:
     """Returns the current folder. Missing: a machine needs this path for a folder."""
     place = os.getcwd()
-    if any(place == own or place.startswith(f"{own}/") for own in OWN):
-        raise Missing(f"--simulated: {place} isn't in the machine, whose {', '.join(OWN)} are its own")
+    if any(place == own or place.startswith(f"{own}/") for own in OWN_FOLDERS):
+        raise Missing(f"--simulated: {place} isn't in the machine, whose {', '.join(OWN_FOLDERS)} are its own")
     return place
 
 

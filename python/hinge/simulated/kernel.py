@@ -17,7 +17,7 @@ INIT_HEADERS = [HERE / f"{name}.h" for name in ("init", "rooms", "net")]
 RELEASED = (HERE / "kernels", HERE.parents[2] / "release" / "kernels")
 LETTERS = 16  # of a checksum in the name of a folder
 # The kernel draws random numbers from its own version too. It is fixed, so that each build draws the same.
-VERSION = {
+BUILD_VERSION = {
     "KBUILD_BUILD_TIMESTAMP": "2026-01-01",
     "KBUILD_BUILD_USER": "hinge",
     "KBUILD_BUILD_HOST": "hinge",
@@ -67,7 +67,7 @@ def checksum_of(*paths: Path, begin: str = "") -> str:
 
 def checksum_of_inputs() -> str:
     """Returns a checksum of a kernel's ingredients, except for the Linux source."""
-    return checksum_of(CONFIG, PATCH, begin=repr(sorted(VERSION.items())))
+    return checksum_of(CONFIG, PATCH, begin=repr(sorted(BUILD_VERSION.items())))
 
 
 def folder_of(version: str) -> Path:
@@ -87,7 +87,7 @@ def current_kernels(*places: Path) -> Iterator[Kernel]:
                 yield Kernel(folder)
 
 
-def found() -> Kernel:
+def usable_kernel() -> Kernel:
     """Returns the kernel in the folder HINGE_KERNEL, or built with `hinge kernel`, or released. Missing: there is no kernel."""
     path = os.environ.get("HINGE_KERNEL")
     if path:

@@ -7,7 +7,7 @@ from typing import Any, Iterator
 from hinge.border.files import read_object
 from hinge.command import Fault
 from hinge.run.words import Wrong
-from hinge.simulated.failures import WORDS
+from hinge.simulated.failures import WORDS_KEY
 
 GIVEN = ("kernel", "cpu", "processor", "at")  # beside what `given` has
 TIMES = ("simulated", "spun")  # what two equal runs have in common
@@ -43,9 +43,9 @@ def of_files(before: "dict[str, Any]", present: "dict[str, Any]") -> str:
     unsure = [name for name in {**one, **other} if [] in (one.get(name), other.get(name))]
     names = [name for name in {**one, **other} if one.get(name) != other.get(name) and name not in unsure]
     first, *more = [*names, *unsure] or [""]
-    others = f" and {len(more)} more files" * bool(more)
+    others = f" and {len(more)} more files" if more else ""
     if not names:
-        return f"; the same {len(one) - len(unsure)} files" + f", beside {first}{others} that a run changed" * bool(unsure)
+        return f"; the same {len(one) - len(unsure)} files" + (f", beside {first}{others} that a run changed" if unsure else "")
     why = (
         "other"
         if first in one and first in other
@@ -61,7 +61,7 @@ def of_files(before: "dict[str, Any]", present: "dict[str, Any]") -> str:
 def remarks(path: str, before: "dict[str, Any]", present: "dict[str, Any]") -> Iterator[str]:
     differing = what_differs(before, present)
     text = f"other {', '.join(differing)}" if differing else "the same words, environment, folder, input and kernel"
-    if WORDS in before and isinstance(before.get("ended"), dict):
+    if WORDS_KEY in before and isinstance(before.get("ended"), dict):
         end = present.get("ended", {}).get("name", "no end of its own")
         same = end == before["ended"]["name"]
         yield f"--like {path}: it ends by {end}, {'as then' if same else 'and then by ' + str(before['ended']['name'])}"

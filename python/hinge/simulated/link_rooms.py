@@ -90,6 +90,7 @@ def link_run(options: RunOptions, seed: int, transcript: Optional[str]) -> LinkR
     """Returns the link's orders in a machine, which are read before the machine starts."""
     plan = plan_of(options, options.mtu)
     text = plan.text(seed, transcript, True, options.most, True)
-    wait, end = duration(options.server_wait, "--server-wait") / 1e9, duration(options.server_end, "--server-end") / 1e9
+    wait = duration(options.server_wait, "--server-wait") / 1e9
+    end = duration(options.server_end, "--server-end") / 1e9
     order = Order(options.but(transcript=None), text, limit_of(options.late), seed, draws(plan), set(), wait, end, plan)
     return LinkRun(options, order)

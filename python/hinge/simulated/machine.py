@@ -30,7 +30,7 @@ TIMED_OUT = 124  # as that of timeout(1)
 SIGNALLED = 128
 NO_LIFE, OVER = signal.SIGUSR1, signal.SIGALRM  # why a machine ends its job: nothing of it will ever wake, or its time is over
 LIBRARIES, LIBRARIES_SIZE = "/etc/ld.so.cache", 1 << 20
-NONE, OF_DEADLOCKS, ALL = "none", "deadlock", "all"  # cores that the launcher looks at
+NO_CORES, OF_DEADLOCK, ALL_CORES = "none", "deadlock", "all"  # cores that the launcher looks at
 
 
 class Settings(NamedTuple):
@@ -45,7 +45,7 @@ class Settings(NamedTuple):
     limit: int = 0  # ns of simulated time, or 0
     root: Optional[str] = None  # a folder that is the machine's root, of which nothing is written
     more: "tuple[str, ...]" = ()  # lines for /proc/pauses: `keep CALLS`, and `core CALL`
-    cores: str = NONE  # which processes leave a core for the launcher
+    cores: str = NO_CORES  # which processes leave a core for the launcher
 
 
 class MachineEnded(NamedTuple):
@@ -96,7 +96,10 @@ class Machine:
         """Creates a machine; `place` is a permanent folder for the job's files."""
         if few := too_few():
             raise Missing(few)
-        self.room, self.job, self.root, self.processor = Room(settings.memory, place), job, settings.root, OneProcessor()
+        self.room = Room(settings.memory, place)
+        self.job = job
+        self.root = settings.root
+        self.processor = OneProcessor()
         self.memory = settings.memory
         try:
             self.furnish(kernel, settings)
@@ -105,7 +108,8 @@ class Machine:
         except BaseException:
             self.room.remove()
             raise
-        self.interrupts, self.copiers = Interrupts(self.process.pid), list[Copier]()
+        self.interrupts = Interrupts(self.process.pid)
+        self.copiers = list[Copier]()
         self.is_held = False
         self.cut: Optional[int] = None  # the status of a run that was ended from outside
 
@@ -146,7 +150,8 @@ class Machine:
             raise_limits()
             self.processor.take()
 
-        words, how = kernel_words(kernel, settings), {"cwd": self.folder, "env": names, "preexec_fn": begin}
+        words = kernel_words(kernel, settings)
+        how = {"cwd": self.folder, "env": names, "preexec_fn": begin}
         with open(self.folder / "log", "wb") as log:
             return begun(words, stdin=NOTHING, stdout=log, stderr=SAME, start_new_session=True, **how)
 

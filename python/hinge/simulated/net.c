@@ -43,6 +43,7 @@ static void next_planned_act(struct job *job, struct act *act) {
     act->of_main = !strcmp(must_next(job), "main");
     act->ns = next_number(job);
     act->word = must_next(job);
+    act->ending = must_next(job);
     act->host = next_number(job);
     act->fault = next_number(job);
     act->more = must_next(job);

@@ -20,10 +20,10 @@ struct wait {
 
 struct act {
     bool of_main;
-    uint64_t ns; /* from the links' beginning, or from the main command's */
-    const char *word;
+    uint64_t ns;               /* from the links' beginning, or from the main command's */
+    const char *word, *ending; /* the word that ends it, or nothing */
     size_t host;
-    uint64_t fault; /* the number of a kill, a crash or a stop, which its end has too */
+    uint64_t fault; /* the number of a fault, which its end has too */
     const char *more;
     bool is_pending, lasts;
     uint64_t due;

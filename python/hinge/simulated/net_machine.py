@@ -5,6 +5,7 @@ from __future__ import annotations
 from pathlib import Path
 from typing import NamedTuple, Optional
 
+from hinge.events.forms import ACTS
 from hinge.net.acts import Done
 from hinge.net.clocks import clock_number
 from hinge.net.net_rooms import NetEnds, NetRooms
@@ -57,12 +58,13 @@ class NetRun(NamedTuple):
             texts += [str(self.rooms.index(wait.host)), str(wait.port), nanoseconds(wait.lasting), kind]
         texts.append(str(len(order.made.acts)))
         for act in order.made.acts:
-            base, host = "main" if act.moment.of_main else "start", str(self.rooms.index(act.host))
-            texts += [base, str(act.moment.ns), act.word, host, str(act.fault), act.more]
+            base = "main" if act.moment.of_main else "start"
+            host = str(self.rooms.index(act.host))
+            texts += [base, str(act.moment.ns), act.word, ACTS[act.word].ending, host, str(act.fault), act.more]
         return texts
 
-    def told(self, folder: Path) -> Optional[MachineMessages]:
-        """Nothing where the links ended at once."""
+    def messages(self, folder: Path) -> Optional[MachineMessages]:
+        """Returns the first process's messages, or None if the links ended at once."""
         rows = [line.split() for line in first_process_lines(folder)]
         if not rows:
             return None
@@ -84,7 +86,7 @@ class NetRun(NamedTuple):
 
     def ended(self, folder: Path) -> Optional[MachineVerdict]:
         """As the main command did, or where there is none as the first that didn't end well."""
-        result = self.told(folder)
+        result = self.messages(folder)
         if result is None:
             return None
         if result.missing:
@@ -94,7 +96,7 @@ class NetRun(NamedTuple):
         return next((one for one in result.verdicts.values() if one.status), MachineVerdict(ITSELF, 0))
 
     def report(self, folder: Path, summary: Path, verdict: Optional[MachineVerdict], tell: Tell) -> int:
-        result, ends = self.told(folder), NetEnds(self.order.net)
+        result, ends = self.messages(folder), NetEnds(self.order.net)
         if result is None:
             raise ValueError(folder)
         places = {name: counts_of(folder, place) for place, name in enumerate(ends.own, 1)}
@@ -102,7 +104,8 @@ class NetRun(NamedTuple):
             tell(line)
         drops = ends.drops({name: all_dropped(place) for name, place in places.items()})
         rest = {name: some for name, place in places.items() if (some := unforwarded(place))}
-        status, counts = verdict.status if verdict else TERMINATED, page_of(folder).read()
+        status = verdict.status if verdict else TERMINATED
+        counts = page_of(folder).read()
         ran = NetRan(status, counts, drops, result.endings, rest, result.acts, result.main, result.missing)
         return report_net(self.order._replace(options=self.order.options.but(transcript=None, json=str(summary))), ran, None, tell)
 

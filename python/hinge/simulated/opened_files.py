@@ -9,7 +9,7 @@ import stat
 from pathlib import Path
 from typing import Any, Iterator, Optional
 
-from hinge.simulated.job import OWN
+from hinge.simulated.job import OWN_FOLDERS
 
 PIECE = 1 << 20
 OWN_ROOT = "//proc/self/cwd/root/"  # as the kernel names what is in the folder of --root
@@ -54,7 +54,7 @@ def paths_told(folder: Path, root: Optional[str]) -> "Iterator[tuple[str, bool]]
     for text in (folder / "opened").read_bytes().split(b"\0"):
         path = os.fsdecode(text).removeprefix(ABSENT)
         place = os.path.normpath("/" + path[len(begin) :].lstrip("/"))
-        if path.startswith(begin) and not f"{place}/".startswith((f"{folder}/", *(f"{own}/" for own in OWN))):
+        if path.startswith(begin) and not f"{place}/".startswith((f"{folder}/", *(f"{own}/" for own in OWN_FOLDERS))):
             yield place, not text.startswith(os.fsencode(ABSENT))
 
 
@@ -68,7 +68,8 @@ def portable_name(path: str) -> str:
 
 def files_record(folder: Path, root: Optional[str] = None) -> "dict[str, Any]":
     """Returns the summary's `files`, in the order of opening, and `absent`."""
-    paths, start = dict.fromkeys(paths_told(folder, root)), os.stat(folder / "job").st_ctime_ns
+    paths = dict.fromkeys(paths_told(folder, root))
+    start = os.stat(folder / "job").st_ctime_ns
     records = ((path, file_record(f"{root or ''}{path}", start)) for path, is_there in paths if is_there)
     files = {portable_name(path): record for path, record in records if record is not None}
     return {"files": files, "absent": [portable_name(path) for path, is_there in paths if not is_there]}

@@ -14,7 +14,7 @@ from hinge.simulated.pauses import SHOWN, PausesMade, pauses_made
 Record = dict[str, Any]
 
 
-class Outcome(NamedTuple):
+class RunOutcome(NamedTuple):
     ended: MachineEnded
     real: float  # s
     interrupts: int
@@ -26,13 +26,13 @@ class Outcome(NamedTuple):
     random: "list[str]"  # programs that ask the processor itself
 
     @classmethod
-    def of(cls, machine: Machine, endings: MachineEnded, settings: Settings) -> Outcome:
-        real, interrupts, hides = machine.real(), machine.interrupts, machine.hides_the_processor
-        given, pauses, random = (
-            machine.job.given(),
-            pauses_made(machine.folder / "paused"),
-            random_programs(machine.folder, machine.root),
-        )
+    def of(cls, machine: Machine, endings: MachineEnded, settings: Settings) -> RunOutcome:
+        real = machine.real()
+        interrupts = machine.interrupts
+        hides = machine.hides_the_processor
+        given = machine.job.given()
+        pauses = pauses_made(machine.folder / "paused")
+        random = random_programs(machine.folder, machine.root)
         return cls(endings, real, interrupts.count, interrupts.longest, hides, settings, given, pauses, random)
 
     def differences(self) -> Iterator[str]:
@@ -71,7 +71,8 @@ class Outcome(NamedTuple):
     def pauses_record(self) -> "dict[str, Any]":
         if not (self.pauses and self.settings.pauses):
             return {}
-        asked, first = self.settings.pauses, [one._asdict() for one in self.pauses.first]
+        asked = self.settings.pauses
+        first = [one._asdict() for one in self.pauses.first]
         counts = {"calls": self.pauses.calls, "count": self.pauses.amount, "time": self.pauses.time / 1e9}
         return {"pauses": {"asked": asked.asked, **counts, "first": first}}
 

@@ -14,7 +14,8 @@ from typing import BinaryIO, Iterator, Optional
 from hinge.simulated.opened_files import paths_told
 
 # rdrand, rdseed and rdpid. Before a byte 0xff they are a part of a distance.
-RANDOM, CPUID = re.compile(rb"\x0f\xc7[\xf0-\xff][^\xff]"), b"\x0f\xa2"
+RANDOM = re.compile(rb"\x0f\xc7[\xf0-\xff][^\xff]")
+CPUID = b"\x0f\xa2"
 # lsl of the segment whose limit has the number, behind the number of that segment.
 NUMBER = re.compile(rb"\x7b\0\0\0.{0,12}?\x0f\x03[\xc0-\xff]", re.DOTALL)
 OF_RANDOM, OF_NUMBER = (
@@ -56,7 +57,8 @@ def taken_by(file: BinaryIO) -> str:
     for part in (part for begin, length in [*segments(file)] for part in segment_parts(file, begin, length)):
         if NUMBER.search(part):
             return OF_NUMBER
-        asks, draws = asks or CPUID in part, draws or RANDOM.search(part) is not None
+        asks = asks or CPUID in part
+        draws = draws or RANDOM.search(part) is not None
     return OF_RANDOM if draws and not asks else ""
 
 

@@ -21,7 +21,7 @@ STEPS = 11  # a pause between two calls is 2^11 instructions behind the first on
 LONG = 3  # by half of the seeds that draw pauses, all are of an eighth of the longest at least
 MOST_GIVEN = 256  # the kernel's PAUSES_KEPT
 SHOWN = 10  # pauses that are told in words
-FORM = "neither pauses one by one, as 1034-16ms,2200+0.5s,2304+5us@250, nor `drawn`"
+NO_PAUSES = "neither pauses one by one, as 1034-16ms,2200+0.5s,2304+5us@250, nor `drawn`"
 
 
 class Given(NamedTuple):
@@ -33,7 +33,7 @@ class Given(NamedTuple):
     steps: int = 0  # instructions behind the call, where other processes have the same memory
 
     def word(self) -> str:
-        return f"{self.call}{'-' if self.where == 'before' else '+'}{self.ns}ns" + f"@{self.steps}" * bool(self.steps)
+        return f"{self.call}{'-' if self.where == 'before' else '+'}{self.ns}ns" + (f"@{self.steps}" if self.steps else "")
 
 
 class Pauses(NamedTuple):
@@ -44,7 +44,7 @@ class Pauses(NamedTuple):
         """Yields the lines for the kernel, which draws no pauses: 0 in 1 call, with the seed 0."""
         yield "0 1 0"
         for one in self.given:
-            yield f"{one.call} {one.where} {one.ns}" + f" {one.steps}" * bool(one.steps)
+            yield f"{one.call} {one.where} {one.ns}" + (f" {one.steps}" if one.steps else "")
 
 
 class Paused(NamedTuple):
@@ -107,7 +107,8 @@ def drawn_pauses(seed: int) -> Iterator[Given]:
         place, power, more, where = (number_from_text(f"{what} {call} {seed}") for what in ("place", "length", "more", "where"))
         call += 1 + place % min(call // 4 + 3 if are_stepped else call * 2 // 3 + 2**OFTENEST // 2, most)
         span = 1000 << shortest + power % (longest - shortest + 1)
-        steps, is_before = number_from_text(f"steps {call} {seed}"), where % (4 if are_stepped else 2) == 0
+        steps = number_from_text(f"steps {call} {seed}")
+        is_before = where % (4 if are_stepped else 2) == 0
         least = 0 if is_before or not are_stepped else 1 << steps % (STEPS + 1)
         yield Given(call, "before" if is_before else "behind", span + more % span, least + (steps >> 8) % max(least, 1))
 

@@ -23,13 +23,13 @@ from hinge.run.processes import SIGNALLED
 from hinge.run.summary import FORMAT
 from hinge.run.transcripts import KEPT, parts_of, told
 from hinge.simulated.job import Job, environment, limit_in_ns, real_limit_of, refuse_outside, root_of, words_of_net
-from hinge.simulated.kernel import Kernel, found
+from hinge.simulated.kernel import Kernel, usable_kernel
 from hinge.simulated.likeness import earlier, remarks
 from hinge.simulated.link_rooms import LinkRun, link_run
-from hinge.simulated.machine import BOOTED, NO_LIFE, NONE, OF_DEADLOCKS, TIMED_OUT, Machine, MachineEnded, Settings
+from hinge.simulated.machine import BOOTED, NO_LIFE, NO_CORES, OF_DEADLOCK, TIMED_OUT, Machine, MachineEnded, Settings
 from hinge.simulated.pauses import pauses_of
 from hinge.simulated.opened_files import files_record
-from hinge.simulated.outcome import Outcome, Record
+from hinge.simulated.outcome import RunOutcome, Record
 from hinge.simulated.places import has_debugger, with_places
 from hinge.simulated.streams import has_terminal, is_same_file, read_input
 from hinge.simulated.time_options import BEGINNING, date, size
@@ -51,7 +51,7 @@ from hinge.simulated.verdict import (
 if TYPE_CHECKING:
     from hinge.simulated.net_machine import NetRun
 
-HISTORY, SUMMARY = "history", "summary"  # names in the folder that outlives a machine
+MACHINE_HISTORY, MACHINE_SUMMARY = "history", "summary"  # names in the folder that outlives a machine
 MEMORY = "1G"
 InRooms = Union[LinkRun, "NetRun"]
 
@@ -59,8 +59,9 @@ InRooms = Union[LinkRun, "NetRun"]
 def settings_of(options: SimulatedOptions, seed: int) -> Settings:
     at = date(BEGINNING) if options.at is None else options.at
     memory, cpu = options.memory or size(MEMORY), options.cpu or "stable"
-    scratch, pauses = options.scratch or options.twice, pauses_of(options.pauses, seed)
-    cores = OF_DEADLOCKS if has_debugger() else NONE
+    scratch = options.scratch or options.twice
+    pauses = pauses_of(options.pauses, seed)
+    cores = OF_DEADLOCK if has_debugger() else NO_CORES
     return Settings(seed, at, memory, cpu, scratch, pauses, limit_in_ns(options), root_of(options), cores=cores)
 
 
@@ -69,13 +70,13 @@ def inside(options: NetOptions, seed: int) -> NetOptions:
     transcript is always a new file, copied at the end, since an existing one would show in the run. The launcher's own options are
     left out: the words are in the programs' memory, and mustn't change the run."""
     ours = dict.fromkeys(("kept", "pauses", "real_limit", "limit", "like", "root"))
-    files = {"transcript": transcript_of(options), "json": f"{KEPT}/{SUMMARY}"}
+    files = {"transcript": transcript_of(options), "json": f"{KEPT}/{MACHINE_SUMMARY}"}
     return options.but(seed=seed, realtime=True, twice=False, clean_env=False, **files, **ours)
 
 
 def transcript_of(options: SimulatedOptions) -> Optional[str]:
     """Returns the path of the run's transcript in the machine, if any."""
-    return f"{KEPT}/{HISTORY}" if options.transcript or options.twice else None
+    return f"{KEPT}/{MACHINE_HISTORY}" if options.transcript or options.twice else None
 
 
 class Planned(NamedTuple):
@@ -129,9 +130,9 @@ def ending(machines: "list[Machine]") -> Iterator[list[int]]:
 def hand_over(machine: Machine, transcript: Optional[str]) -> None:
     """Copies the transcript to the user's path, even if it is incomplete."""
     store = machine.room.kept
-    count = len(list(store.glob(f"{HISTORY}*")))
+    count = len(list(store.glob(f"{MACHINE_HISTORY}*")))
     if transcript and count:
-        for part, target in zip(parts_of(str(store / HISTORY), count), parts_of(transcript, count)):
+        for part, target in zip(parts_of(str(store / MACHINE_HISTORY), count), parts_of(transcript, count)):
             with written(target) as place:
                 shutil.copyfile(part, place)
         for line in told(transcript, count):
@@ -184,14 +185,16 @@ def has_begun(machine: Machine, options: SimulatedOptions, verdict: MachineVerdi
 
 
 def summary_of(machine: Machine) -> "dict[str, Any]":
-    path = machine.room.kept / SUMMARY
+    path = machine.room.kept / MACHINE_SUMMARY
     result = json.loads(path.read_text()) if path.exists() else {}
     return result if isinstance(result, dict) else {}
 
 
 def reported(machine: Machine, plan: Planned, kernel: Kernel, files: bool, is_told: bool = True) -> Reported:
     """Reports a run, unless it should be quiet. Missing: the kernel doesn't support pauses, or the machine failed early."""
-    options, settings, endings = plan.options, plan.settings, machine.ended()
+    options = plan.options
+    settings = plan.settings
+    endings = machine.ended()
     if (machine.folder / "fault").exists() or (endings is None and machine.cut is None):
         raise machine.fault()
     rooms = plan.rooms if (machine.folder / "ran").exists() else None
@@ -199,7 +202,7 @@ def reported(machine: Machine, plan: Planned, kernel: Kernel, files: bool, is_to
     is_cut = verdict is not None and verdict.by not in (ITSELF, SIGNAL)
     status = machine.cut if machine.cut is not None else endings.status if endings else 0
     if rooms:
-        status = rooms.report(machine.folder, machine.room.kept / SUMMARY, verdict, say if is_told else lambda line: None)
+        status = rooms.report(machine.folder, machine.room.kept / MACHINE_SUMMARY, verdict, say if is_told else lambda line: None)
     if is_cut and verdict:
         status = verdict.status
         for line in told_cut(verdict, options) if is_told else ():
@@ -209,7 +212,7 @@ def reported(machine: Machine, plan: Planned, kernel: Kernel, files: bool, is_to
         own = {"ended": verdict.record()} if has_begun(machine, options, verdict) else {}
         record = {**record, **({"status": status} if is_cut else {}), **own}
     if endings:
-        outcome = Outcome.of(machine, told_simulated(endings, verdict), settings)
+        outcome = RunOutcome.of(machine, told_simulated(endings, verdict), settings)
         if settings.pauses and not outcome.pauses:
             raise Missing("--pauses: this kernel has none; `hinge kernel` builds one that has")
         for line in outcome.lines() if not options.quiet else []:
@@ -243,7 +246,9 @@ def run_simulated(options: SimulatedOptions) -> int:
     refuse_outside(options, has_terminal())
     if options.like:
         earlier(options.like)  # so that a wrong one is told before a machine is made
-    limit, kernel, plan = real_limit_of(options), found(), planned(options)
+    limit = real_limit_of(options)
+    kernel = usable_kernel()
+    plan = planned(options)
     machines = list[Machine]()
     with scratch() as place, ending(machines) as came:
         read_input(place / "in")

@@ -26,7 +26,9 @@ class Copier(threading.Thread):
 
     def __init__(self, path: Path, to: int, keeps: bool) -> None:
         super().__init__(daemon=True)
-        self.file, self.to, self.keeps = os.open(path, os.O_RDWR | os.O_CLOEXEC), to, keeps
+        self.file = os.open(path, os.O_RDWR | os.O_CLOEXEC)
+        self.to = to
+        self.keeps = keeps
         self.copied, self.is_last = 0, False
         self.fault: Optional[OSError] = None  # nobody reads it any more, or its disk is full
         self.start()

@@ -42,14 +42,14 @@ def size(text: str) -> int:
 def pauses_word(text: str) -> str:
     """Returns the word of the option. ArgumentTypeError: the text is no such word."""
     from hinge.run.words import Wrong
-    from hinge.simulated.pauses import DRAWN, FORM, given
+    from hinge.simulated.pauses import DRAWN, NO_PAUSES, given
 
     try:
         is_word = text == DRAWN or bool(given(text))
     except Wrong as wrong:
         raise argparse.ArgumentTypeError(str(wrong)) from None
     if not is_word:
-        raise argparse.ArgumentTypeError(f"{text!r} is {FORM}")
+        raise argparse.ArgumentTypeError(f"{text!r} is {NO_PAUSES}")
     return text
 
 

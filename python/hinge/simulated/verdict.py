@@ -8,7 +8,12 @@ from typing import Any, Iterator, NamedTuple, Optional
 
 from hinge.simulated.calls_of_linux import call_name
 
-ITSELF, SIGNAL, DEADLOCK, LIMIT, REAL_LIMIT, OUTSIDE = "itself", "signal", "deadlock", "limit", "real limit", "outside"
+ITSELF = "itself"
+SIGNAL = "signal"
+DEADLOCK = "deadlock"
+LIMIT = "limit"
+REAL_LIMIT = "real limit"
+OUTSIDE = "outside"
 DEADLOCKED, LIMITED = 77, 78  # the status of a run that the kernel ended since nothing would wake, and of one by --limit
 SIGNALLED = 128
 STATES = {"R": "runs", "S": "waits", "D": "waits", "T": "stopped", "t": "traced", "Z": "has ended", "X": "has ended"}
@@ -37,7 +42,7 @@ class Waiting(NamedTuple):
         thread = f", thread {self.thread}" if self.thread != self.process else ""
         return (
             f"process {self.process}{thread} ({self.program}) {self.state}: {self.call or 'no call'}{of} since {self.since:.9f} s"
-            + f", in {self.place}" * bool(self.place)
+            + (f", in {self.place}" if self.place else "")
         )
 
 

@@ -61,13 +61,19 @@ def dropped_in_history(history: Path) -> list[str]:
 
 def unmet_cuts(history: Path) -> list[str]:
     """Returns the cuts in a net's transcript that no packet met. A cut gives its pipes lines with `plr 1`, all at once."""
-    names, met, cut_by, call, is_cutting = list[str](), list[int](), dict[str, int](), [""], False
+    names = list[str]()
+    met = list[int]()
+    cut_by = dict[str, int]()
+    call = [""]
+    is_cutting = False
     for record in records(history):
         if record[:2] == ["#", "act"] and record[2].startswith("cut "):
             names.append(record[2])
         elif record[2:3] == ["configure"] and record[3].startswith("pipe "):
-            pipe, is_cut = record[3].split()[1], record[3].endswith(" plr 1")
-            met += [0] * (is_cut and not is_cutting)
+            pipe = record[3].split()[1]
+            is_cut = record[3].endswith(" plr 1")
+            if is_cut and not is_cutting:
+                met.append(0)
             cut_by = {**cut_by, pipe: len(met) - 1} if is_cut else {key: cut for key, cut in cut_by.items() if key != pipe}
             is_cutting = is_cut
         elif record[2:3] == ["submit"]:
@@ -99,7 +105,7 @@ class Emulated(ABC):
     def unmet_words(self, words: Collection[str]) -> list[str]:
         """Returns a line for each of these marks' words that had no effect."""
         is_met = "link" not in words or self.history.exists() and any(submissions(self.history))
-        return ["the mark link: no packet came to a link of the test"] * (not is_met)
+        return ["the mark link: no packet came to a link of the test"] if not is_met else []
 
     def idle(self) -> list[str]:
         """Returns a line for each part of a simulated network that no packet met."""
@@ -121,7 +127,7 @@ class UdpPath(Emulated):
         super().__init__(history, own)
         self.seed = seed
         links = [f"pipe {number} config {Options(text)}".strip() for number, text in enumerate((there, back), 1)]
-        by_seed = ["--seed", str(seed)] * any("plr" in line for line in links)
+        by_seed = ["--seed", str(seed)] if any("plr" in line for line in links) else []
         words = ["udp", "0", server, *links, *by_seed, "--transcript", str(history)]
         self.process = begun([*HINGE, *words], stdout=PIPE, stderr=PIPE, text=True)
         self.address = self._ready()
@@ -188,13 +194,15 @@ class SimulatedPath(Emulated):
 
     def report(self) -> str:
         lines = [self.told, closing(self.net.seed, self.verdict, self.history)]
-        faults, path = self.chosen(), self.history.with_suffix(".faults")
+        faults = self.chosen()
+        path = self.history.with_suffix(".faults")
         path.write_text(str(faults), encoding="utf-8")
         if self.net.chosen is None:
             lines += [f"drawn: {fault}" for fault in faults if fault.kind != IS_LOST][:MOST_DROPPED]
-            lines += [f"all of this as faults: --link-faults {path}"] * bool(faults)
+            if faults:
+                lines.append(f"all of this as faults: --link-faults {path}")
         else:
-            lines += [f"fault: {fault}{': it came to no packet' * (fault in self.net.unmet())}" for fault in faults]
+            lines += [f"fault: {fault}{': it came to no packet' if fault in self.net.unmet() else ''}" for fault in faults]
         return "\n".join(lines)
 
 
@@ -211,7 +219,7 @@ class NetOfTest(Emulated):
     def unmet_words(self, words: Collection[str]) -> list[str]:
         lines = super().unmet_words(words)
         is_unsaid = "link" in words and not self.net.unsaid and not lines
-        return lines + ["the mark link: no link of the test has its words"] * is_unsaid
+        return lines + (["the mark link: no link of the test has its words"] if is_unsaid else [])
 
     def end(self) -> None:
         self.net.close()

@@ -13,8 +13,7 @@ from _pytest.runner import runtestprotocol
 from hinge.fault_lines import Drawn, Faults, read_faults
 from hinge.faults import some_faults
 from hinge.pytest_plugin import LINKS, TRIED
-from hinge.searches.case import Case, Part
-from hinge.searches.shrinking import least
+from hinge.searches.case import Case, Part, least
 from hinge.testing.emulated import SimulatedPath
 from hinge.testing.marks import Variation, variation_of, vary_of
 
@@ -93,7 +92,7 @@ class Trials:
         return Drawn(*(line for part in least(whole, fails).parts for line in part.what)) if fails(whole) else None
 
     def drawn(self, runs: int) -> Optional[Trial]:
-        """Faults that hypothesis finds and shrinks."""
+        """Returns faults that hypothesis finds and shrinks."""
         from hypothesis import HealthCheck, errors, find, settings
 
         net = self.network().net
@@ -114,7 +113,7 @@ class Trials:
             yield Trial(seed=seed, variation=own if str(own) else VARIATIONS[seed % len(VARIATIONS)])
 
     def found(self, runs: int) -> Optional[Trial]:
-        """Faults with which a test fails that passes without them."""
+        """Returns faults that make a passing test fail."""
         if not any(link.came for link in self.network().net.links.values()):
             return None
         trial = self.drawn(runs)
@@ -134,7 +133,8 @@ def reports_with_least(item: pytest.Item, nextitem: Optional[pytest.Item]) -> li
     report = failure(result)
     trials.place = place_of(report)
     if report is not None and trials.place is not None:
-        count, faults = len(trials.network().chosen()), trials.shrunk(Trial())
+        count = len(trials.network().chosen())
+        faults = trials.shrunk(Trial())
         text = "no such failure by these faults alone" if faults is None else text_of(faults, count, trials)
         report.sections.append((LEAST, text))
     return result

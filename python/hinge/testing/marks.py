@@ -35,13 +35,14 @@ class Ends(NamedTuple):
 
 def words_of(options: Mapping[str, object]) -> str:
     """Returns a link's words for another tool's options, such as bw="10Mbit/s"; an empty text if they are none."""
-    from hingetulip_words.advice import OPTIONS, OTHER_NAMES
+    from hingetulip_words.advice import OPTIONS_OF, OTHER_NAMES
     from hingetulip_words.link import WordError, as_words, read_link
 
     words = []
     for key, value in options.items():
-        name, text = OTHER_NAMES.get(key.lower(), key.lower()), str(value)
-        if name not in OPTIONS["pipe"]:
+        name = OTHER_NAMES.get(key.lower(), key.lower())
+        text = str(value)
+        if name not in OPTIONS_OF["pipe"]:
             return ""
         words.append(as_words(name, text))
     try:
@@ -149,7 +150,8 @@ def span_of(name: str, text: object) -> Span:
     match = SPAN.fullmatch(str(text))
     if match:
         unit = UNITS[match["unit"]]
-        low, high = float(match["low"] or 0) * UNITS.get(match["unit_of_low"], unit), float(match["high"]) * unit
+        low = float(match["low"] or 0) * UNITS.get(match["unit_of_low"], unit)
+        high = float(match["high"]) * unit
         if low <= high:
             return Span(low, high, str(text))
     raise ValueError(f"the mark vary: {name} {text!r} isn't a span of times; write {name}='5..100ms'")
@@ -192,7 +194,7 @@ def shared_words(item: pytest.Item) -> dict[str, str]:
     """Returns the words that only marks of a test's class or module contain, and the place of the nearest such mark."""
     own, found = own_words(item), dict[str, str]()
     for node, mark in item.iter_markers_with_node():
-        for word in mark.kwargs if mark.name == "vary" else ["link"] * (mark.name == "link"):
+        for word in mark.kwargs if mark.name == "vary" else (["link"] if mark.name == "link" else []):
             if node is not item and word not in own:
                 found.setdefault(word, getattr(node, "nodeid"))
     return found
@@ -214,7 +216,8 @@ def fault_of(item: pytest.Item) -> Optional[str]:
 
 def unused(item: pytest.Item) -> Iterator[str]:
     """Yields a warning for each of a test's marks without effect."""
-    own, names = {mark.name for mark in getattr(item, "own_markers", ())}, getattr(item, "fixturenames", ())
+    own = {mark.name for mark in getattr(item, "own_markers", ())}
+    names = getattr(item, "fixturenames", ())
     takes_link = any(name in FIXTURES for name in names) or item.get_closest_marker("simulated") is not None
     if "link" in own and not takes_link:
         yield "the mark link is of no effect: no fixture of the test is sim_net, udp_path or net"

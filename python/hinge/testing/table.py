@@ -52,7 +52,7 @@ def row_of(item: pytest.Item, seed: int, links: Sequence[Any]) -> list[tuple[str
     is_swept = "link_seed" in parameters or bool(str(vary_of(item)))
     parameters.pop("link_seed", None)
     texts = [re.sub(" at 0x[0-9a-f]+", "", f"{name} {value}") for name, value in parameters.items()]  # in each process alike
-    others = f" with {', '.join(texts)}" * bool(texts)
+    others = f" with {', '.join(texts)}" if texts else ""
     name = f"{item.nodeid.partition('[')[0]}{others}"
     return [(NAME, {"name": name, "seed": seed, "is_swept": is_swept, "is_disturbed": states[0], "varied": str(vary_of(item))})]
 
@@ -73,7 +73,7 @@ class Sweep:
     failed: list[int] = field(default_factory=list)
 
     def text(self) -> str:
-        more = f" and {len(self.failed) - MOST_SEEDS} more" * (len(self.failed) > MOST_SEEDS)
+        more = f" and {len(self.failed) - MOST_SEEDS} more" if len(self.failed) > MOST_SEEDS else ""
         numbers = f": {', '.join(map(str, sorted(self.failed)[:MOST_SEEDS]))}{more}" if self.failed else ""
         return f"{len(self.failed)} of {len(self.seeds)} seeds failed{numbers}{f' ({self.varied})' if self.varied else ''}"
 
@@ -84,7 +84,10 @@ class Table:
     def __init__(self) -> None:
         self.sweeps: dict[str, Sweep] = {}
         self.is_disturbed: Optional[bool] = None
-        self.tests, self.calls, self.refused, self.unwatched = 0, Counter[str](), 0, list[str]()
+        self.tests = 0
+        self.calls = Counter[str]()
+        self.refused = 0
+        self.unwatched = list[str]()
         self.searched: dict[str, str] = {}  # what a search found of each test
         self.shared = dict[
             tuple[str, str], list[str]
@@ -120,9 +123,10 @@ class Table:
         lines += [
             f"{node}: what met nothing in all its tests: {why}" for (node, _), whys in self.shared.items() for why in whys[:1]
         ]
-        lines += [UNDISTURBED] * (self.is_disturbed is False)
+        if self.is_disturbed is False:
+            lines.append(UNDISTURBED)
         if self.tests:
-            refused = [f"{self.refused} {'was' if self.refused == 1 else 'were'} refused"] * bool(self.refused)
+            refused = [f"{self.refused} {'was' if self.refused == 1 else 'were'} refused"] if self.refused else []
             lines.append(f"{self.tests} in simulated time: {'; '.join([told(self.calls), *refused, *self.unwatched])}")
         lines += [f"{name}: {text}" for name, text in self.searched.items()]
         if lines:

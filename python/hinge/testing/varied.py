@@ -1,7 +1,6 @@
 """A test network varied by its seed.
 
-With losses only, all tasks run in step: no period ever meets another one differently.
-"""
+With losses only, all tasks run in step: no period ever meets another one differently."""
 
 from __future__ import annotations
 
@@ -50,7 +49,8 @@ class VariedNetwork(FaultyNetwork):
 
     def __init__(self, variation: Variation, *words: Any, **more: Any) -> None:
         super().__init__(*words, **more)
-        self.variation, self.drawn = variation, Random(f"vary {self.seed}")
+        self.variation = variation
+        self.drawn = Random(f"vary {self.seed}")
         self.drawn_acts: dict[str, list[Act]] = {word: [] for word in KINDS}
         self.skews: list[Act] = []
         self.begun = 0  # tasks of hosts
@@ -68,16 +68,22 @@ class VariedNetwork(FaultyNetwork):
         return host
 
     def link(self, near: Host, far: Host, options: Optional[str] = None, **more: Any) -> Link:
-        variation, link = self.variation, super().link(near, far, options, **more)
+        variation = self.variation
+        link = super().link(near, far, options, **more)
         if variation.delay is not None:
             link.change(f"{link.options.without('delay')} delay {variation.delay.ms(self.drawn)}ms")
         return link
 
     def drawn_of(self, link: Link) -> tuple[Optional[LateOf], Optional[IsTwice]]:
         late, is_twice = super().drawn_of(link)
-        span, rate, near, far = self.variation.jitter, self.variation.duplicates, link.near, link.far
+        span = self.variation.jitter
+        rate = self.variation.duplicates
+        near = link.near
+        far = link.far
         random = Random(f"{self.seed} {near} > {far}" if span is None else self.drawn.getrandbits(64))
-        of_copies, own_late, own_twice = Random(random.getstate()[1][0]), late, is_twice
+        of_copies = Random(random.getstate()[1][0])
+        own_late = late
+        own_twice = is_twice
         if self.chosen is None and span is not None:
             ms_of = span.ms
             late = lambda number: ms_of(random) + (own_late(number) if own_late else 0)
@@ -96,9 +102,9 @@ class VariedNetwork(FaultyNetwork):
         has_packet = any(link.came for link in self.links.values())
         has_look = any(host.looks for host in self.hosts.values())
         lacking = {
-            **dict.fromkeys(("delay", "jitter", "duplicates"), "no packet came to a link" * (not has_packet)),
-            "phase": "no task is a host's" * (not self.begun),
-            **dict.fromkeys(("drift", "skew"), "no task of a host looked at `time.time()`" * (not has_look)),
+            **dict.fromkeys(("delay", "jitter", "duplicates"), "no packet came to a link" if not has_packet else ""),
+            "phase": ("no task is a host's" if not self.begun else ""),
+            **dict.fromkeys(("drift", "skew"), "no task of a host looked at `time.time()`" if not has_look else ""),
         }
         now = self.loop.time()
         for word, (_, of) in KINDS.items() if self.chosen is None else ():
@@ -121,7 +127,8 @@ class VariedNetwork(FaultyNetwork):
         def begin() -> None:
             if self.closing:
                 return
-            lasting, targets = round(span.drawn(random), 9), self._targets(word)
+            lasting = round(span.drawn(random), 9)
+            targets = self._targets(word)
             act = Act(self.loop.time(), KINDS[word][0], random.choice(targets) if targets else "", lasting)
             try:
                 self.act(act).is_drawn = True

@@ -12,7 +12,7 @@ from hingetulip.aio.extra import IS_LATE, DelayOf, IsTwice, LateOf, whole
 from hingetulip.aio.options import Options, nonempty
 from hingetulip.errors import LineError
 from hingetulip.records import Outcome
-from hingetulip_words.link import Place, refusal
+from hingetulip_words.link import Place, refusal_of_change
 
 if TYPE_CHECKING:
     from hingetulip.aio.emulator import Way
@@ -178,7 +178,7 @@ class Link:
         the link stays unchanged.
         """
         changed = Options(nonempty(options), has_model=self.has_model, place=Place.CHANGE)
-        if why := refusal(self.begun.settings, changed.settings):
+        if why := refusal_of_change(self.begun.settings, changed.settings):
             raise LineError(f"'{options}': {why}", 0)
         if self.came and changed.settings != self.begun.settings:
             self.changes.append((self.net.loop.time(), self.came))

@@ -1,12 +1,11 @@
 """Captures for the tests, written byte by byte, with the packets that are in them."""
 
-from __future__ import annotations
-
 import socket
 import struct
 import subprocess
 from dataclasses import dataclass
 from pathlib import Path
+from typing import Optional
 
 from hinge.captures.capture_file import write_frame, write_header
 
@@ -27,7 +26,7 @@ class Expected:
     length: int
 
 
-def ip4(src: str, dst: str, proto: int, payload: bytes, fragment: int = 0, length: int | None = None) -> bytes:
+def ip4(src: str, dst: str, proto: int, payload: bytes, fragment: int = 0, length: Optional[int] = None) -> bytes:
     """An IPv4 packet; its header may say another length, as that of a segment which the card was still to cut."""
     total = 20 + len(payload) if length is None else length
     return (
@@ -36,7 +35,7 @@ def ip4(src: str, dst: str, proto: int, payload: bytes, fragment: int = 0, lengt
     )
 
 
-def ip6(src: str, dst: str, following: int, payload: bytes, length: int | None = None) -> bytes:
+def ip6(src: str, dst: str, following: int, payload: bytes, length: Optional[int] = None) -> bytes:
     addresses = b"".join(socket.inet_pton(socket.AF_INET6, address) for address in (src, dst))
     return struct.pack("!IHBB", 6 << 28, len(payload) if length is None else length, following, 64) + addresses + payload
 
@@ -78,13 +77,15 @@ def block(kind: int, body: bytes) -> bytes:
 def without_times(path: Path) -> None:
     """A pcapng with a simple packet block, which has no time."""
     frame = ethernet(0x0800, ip4("10.0.0.1", "10.0.0.2", 17, udp(1, 2, 3)))
-    section, interface = struct.pack("<IHHq", 0x1A2B3C4D, 1, 0, -1), struct.pack("<HHI", ETHERNET, 0, 65535)
+    section = struct.pack("<IHHq", 0x1A2B3C4D, 1, 0, -1)
+    interface = struct.pack("<HHI", ETHERNET, 0, 65535)
     path.write_bytes(block(0x0A0D0D0A, section) + block(1, interface) + block(3, struct.pack("<I", len(frame)) + frame))
 
 
 def timed_in_ns(path: Path, frames: list[tuple[int, bytes]]) -> None:
     """A pcapng whose times are ns in 64 bits."""
-    section, interface = struct.pack("<IHHq", 0x1A2B3C4D, 1, 0, -1), struct.pack("<HHIHHI", ETHERNET, 0, 65535, 9, 1, 9) + bytes(4)
+    section = struct.pack("<IHHq", 0x1A2B3C4D, 1, 0, -1)
+    interface = struct.pack("<HHIHHI", ETHERNET, 0, 65535, 9, 1, 9) + bytes(4)
     packets = [
         block(6, struct.pack("<IIIII", 0, time >> 32, time & 0xFFFFFFFF, len(frame), len(frame)) + frame) for time, frame in frames
     ]
@@ -92,8 +93,7 @@ def timed_in_ns(path: Path, frames: list[tuple[int, bytes]]) -> None:
 
 
 def odd_ethernet(path: Path) -> list[Expected]:
-    """Ethernet with tags, PPPoE, IPv6 with an extension header, fragments, segments of length 0, and frames that aren't
-    IP."""
+    """Ethernet with tags, PPPoE, IPv6 with an extension header, fragments, segments of length 0, and frames that aren't IP."""
     first, second = "192.0.2.1", "198.51.100.2"
     extended = struct.pack("!BBHI", 17, 0, 0, 0) + udp(4000, 4001, 60)
     quoted = b"\x03\x03" + bytes(6) + ip4(second, first, 17, udp(9, 10, 0))
@@ -147,7 +147,8 @@ def other_links(folder: Path) -> list[Expected]:
 def nested(folder: Path) -> list[Path]:
     """Captures of headers within headers, of IPv6 fragments and extension headers, and of further links."""
     first, second = "192.0.2.1", "198.51.100.2"
-    four, six = ip4(first, second, 17, udp(1000, 53, 40)), ip6("2001:db8::1", "2001:db8::2", 6, tcp(7, 8, 5))
+    four = ip4(first, second, 17, udp(1000, 53, 40))
+    six = ip6("2001:db8::1", "2001:db8::2", 6, tcp(7, 8, 5))
     session = struct.pack("!BBHHH", 0x11, 0, 3, len(four) + 2, 0x21) + four
     fragment = [struct.pack("!BBHI", 17, 0, offset << 3 | more, 9) for offset, more in ((0, 1), (20, 0))]
     # hop-by-hop, routing, destination

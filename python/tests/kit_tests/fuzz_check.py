@@ -1,8 +1,5 @@
-"""Random configurations: the first fault that `hinge check` tells is where the program has it, and it tells none where
-the program takes all. `python3 python/tests/kit_tests/fuzz_check.py FROM TO` compares those of the seeds from FROM to
-TO."""
-
-from __future__ import annotations
+"""Random configurations: the first fault that `hinge check` tells is where the program has it, and it tells none where the program
+takes all. `python3 python/tests/kit_tests/fuzz_check.py FROM TO` compares those of the seeds from FROM to TO."""
 
 import contextlib
 import io
@@ -20,8 +17,7 @@ from hinge.program import dummynet
 
 WORDS = (
     "pipe queue ipfw config delete bw delay plr weight buckets mask src-ip dst-ip proto all 1 2 0 70000 8Mbit/s 8Mbps "
-    "1% 20us -1 /24 255.0.0.0 "
-    "0xff red src-ip6 show ; , = loss é 8Mbit/s; eth0 5s 1e-3 .5 1.2.3 999.1.1.1 1/0 / % 0x mask"
+    "1% 20us -1 /24 255.0.0.0 0xff red src-ip6 show ; , = loss é 8Mbit/s; eth0 5s 1e-3 .5 1.2.3 999.1.1.1 1/0 / % 0x mask"
 ).split()
 BEGINNINGS = (["pipe", "1", "config"], ["queue", "1", "config", "pipe", "1"], ["pipe", "2", "config"], [])
 

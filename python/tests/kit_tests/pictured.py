@@ -1,7 +1,5 @@
 """Replays to draw, and which of the libraries of pictures are there."""
 
-from __future__ import annotations
-
 from pathlib import Path
 
 import numpy as np
@@ -39,7 +37,8 @@ def forty() -> tuple[Path, Path]:
 def full_link(flows: int) -> Replay:
     """A thousand packets of 1,000 bytes, one that leaves each ms, of so many flows in turn."""
     due = np.arange(1, 1001) * NS_PER_MS
-    zero, one = np.zeros(1000, np.int64), np.ones(1000, np.int64)
+    zero = np.zeros(1000, np.int64)
+    one = np.ones(1000, np.int64)
     names = [("10.0.0.1", "10.0.0.2", 17, number, 2) for number in range(flows)]
     packets = Packets("full", due - NS_PER_MS, zero, np.arange(1000) % flows, 1000 * one, zero, [("pipe", 1)], names)
     return Replay("full", packets, OUT * one, zero, np.arange(1000), due - NS_PER_MS, due - NS_PER_MS, due, zero, zero, {})

@@ -1,8 +1,6 @@
 """Random frames of each link, for captures that are read by the kit and by tshark: tags, labels, sessions, options,
 fragments and headers that extend IPv6, cut anywhere."""
 
-from __future__ import annotations
-
 import random
 import struct
 from typing import Callable

@@ -1,7 +1,5 @@
 """The transcript of a net of two hosts and a router between them, which does what a test says."""
 
-from __future__ import annotations
-
 import heapq
 from typing import Callable, NamedTuple, Optional
 
@@ -39,7 +37,10 @@ class Net:
     """The transcript of a net whose router does what a function says."""
 
     def __init__(self, router: Router, packets: list[Packet], contents: bool = True, collects: bool = True) -> None:
-        self.lines, self.entries, self.numbers, self.got = ["dummynet-live,1\n", *HOSTS], 0, 0, 0
+        self.lines = ["dummynet-live,1\n", *HOSTS]
+        self.entries = 0
+        self.numbers = 0
+        self.got = 0
         self.router, self.contents = router, contents
         self.queue: list[tuple[int, int, int, Packet, Optional[int]]] = []
         self.order = 0

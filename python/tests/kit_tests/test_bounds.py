@@ -1,18 +1,14 @@
 """The bound on delay next to the greatest delay of a run, as `hinge look` has both. The figures are made by hand."""
 
-from __future__ import annotations
-
 import json
-import subprocess
 import unittest
 from typing import Optional
 
 from hinge.pictures.drawing import Line, Panel
 from hinge.pictures.drawn import series_of
 from hinge.pictures.panels import Panels
-from hinge.program import dummynet
 from hinge.replays.history import read_history
-from kit import folder, run, write
+from kit import folder, live, recorded, run, write
 
 HEAD = "moment,target,number,src,dst,proto,sport,dport,len,word"
 
@@ -23,16 +19,13 @@ def packet(length: int, moment: int = 0, target: str = "pipe,1") -> str:
 
 def history(config: str, packets: list[str]) -> str:
     """The history of a replay, by its name."""
-    lines, rows = write("bounds.config", config + "\n"), write("bounds.csv", "\n".join([HEAD, *packets, ""]))
-    path = folder() / "bounds.history"
-    subprocess.run([dummynet(), "replay", lines, rows, "--history", path], check=True, stdout=subprocess.DEVNULL)
-    return str(path)
+    rows = write("bounds.csv", "\n".join([HEAD, *packets, ""]))
+    return recorded("bounds", write("bounds.config", config + "\n"), rows)
 
 
-def live(lines: list[str]) -> str:
+def written(lines: list[str]) -> str:
     """The transcript of a session, by its name."""
-    done = subprocess.run([dummynet(), "live"], input="\n".join(lines) + "\n", check=True, stdout=subprocess.PIPE, text=True)
-    return str(write("live.history", done.stdout))
+    return str(write("live.history", live(lines)))
 
 
 def pipes(path: str) -> Optional[list[dict[str, Optional[int]]]]:
@@ -89,12 +82,12 @@ class Bounds(unittest.TestCase):
         assert bound_lines(delays(path)) == []
 
     def test_packets_that_are_still_held(self) -> None:
-        path = live(["pipe 1 config bw 8Mbit/s queue 1", f"c,0,submit,{packet(1000).removeprefix('0,')},7"])
+        path = written(["pipe 1 config bw 8Mbit/s queue 1", f"c,0,submit,{packet(1000).removeprefix('0,')},7"])
         assert pipes(path) == [figures(1, 1000, None, 1_000_000, None, 2_000_000)]
         assert run("look", path).stdout.splitlines()[-1].split() == ["1", "1,000", "-", "1.000", "-", "2.000"]
 
     def test_a_link_that_was_changed_has_none(self) -> None:
-        path = live(
+        path = written(
             [
                 "pipe 1 config bw 8Mbit/s",
                 f"c,0,submit,{packet(1000).removeprefix('0,')},0",

@@ -1,19 +1,18 @@
 """`hinge check`: lines, rows and histories that people get wrong; what is advised is taken by the program."""
 
-from __future__ import annotations
-
 import re
 import subprocess
 import sys
 import unittest
 from pathlib import Path
+from typing import Union
 
 from fuzz_check import compare
-from kit import TOP, folder, run
+from kit import TOP, folder, recorded, run
 
 from hinge.checks.histories import HistoryRecords, bad_record
 from hinge.checks.rows import HEADER
-from hingetulip_words.advice import advice, words_of
+from hingetulip_words.advice import advice, words_before_comment
 from hinge.program import dummynet
 
 HEAD = ",".join(HEADER) + "\n"
@@ -102,7 +101,7 @@ ROWS = {
 }
 
 
-def file(name: str, text: str | bytes) -> Path:
+def file(name: str, text: Union[str, bytes]) -> Path:
     path = folder() / name
     path.write_bytes(text if isinstance(text, bytes) else text.encode("latin-1"))
     return path
@@ -116,7 +115,7 @@ def check(*paths: Path) -> tuple[int, str]:
 
 def verdict(line: str) -> subprocess.CompletedProcess[str]:
     """What the program says of a line, below that of pipe 1 where the line is a queue's."""
-    path = file("one", "pipe 1 config\n" * line.startswith("queue") + line + "\n")
+    path = file("one", ("pipe 1 config\n" if line.startswith("queue") else "") + line + "\n")
     return subprocess.run([dummynet(), "replay", path, "/dev/null"], capture_output=True, text=True)
 
 
@@ -124,7 +123,7 @@ class Lines(unittest.TestCase):
     def test_each_wrong_line_is_told_where_the_program_has_it(self) -> None:
         for line, said in {**REPLACED, **TOLD}.items():
             with self.subTest(line):
-                path = file("link.config", "pipe 1 config\n" * line.startswith("queue") + line + "\n")
+                path = file("link.config", ("pipe 1 config\n" if line.startswith("queue") else "") + line + "\n")
                 (status, out), program = check(path), verdict(line)
                 assert (status, program.returncode) == (3, 3)
                 number = re.search(r"line (\d+)(?:, word (\d+))?", program.stderr)
@@ -146,7 +145,7 @@ class Lines(unittest.TestCase):
         for line in REPLACED:
             with self.subTest(line):
                 found = re.search(r"word (\d+): (.*)", verdict(line).stderr)
-                words = words_of(line)
+                words = words_before_comment(line)
                 words[int(found[1]) - 1] = advice(words, int(found[1]), found[2]).word or ""
                 assert verdict(" ".join(words)).returncode == 0, words
 
@@ -188,7 +187,8 @@ class Rows(unittest.TestCase):
 
     def test_a_field_as_long_as_a_file(self) -> None:
         """Longer than a field of Python's csv is by default, 131,072 bytes."""
-        config, path = file("c.config", "pipe 1 config\n"), file("p.csv", HEAD + GOOD + "1" * 200_000 + "\n")
+        config = file("c.config", "pipe 1 config\n")
+        path = file("p.csv", HEAD + GOOD + "1" * 200_000 + "\n")
         status, out = check(config, path)
         assert status == 4
         assert out.startswith(f"{path}:2: "), out[:200]
@@ -292,8 +292,7 @@ class Waits(unittest.TestCase):
 
 class Histories(unittest.TestCase):
     def test_where_a_history_is_wrong(self) -> None:
-        config, packets, path = file("c", "pipe 1 config bw 8Mbit/s\n"), file("p", HEAD + (GOOD + "1\n") * 3), folder() / "h"
-        subprocess.run([dummynet(), "replay", config, packets, "--history", path], stdout=subprocess.DEVNULL, check=True)
+        path = Path(recorded("h", file("c", "pipe 1 config bw 8Mbit/s\n"), file("p", HEAD + (GOOD + "1\n") * 3)))
         text = path.read_text()
         lines = text.splitlines(True)
         assert check(path) == (0, "")

@@ -1,6 +1,5 @@
-"""The frame around every command: its progress on a terminal, and its end if the system refuses something."""
-
-from __future__ import annotations
+"""The frame around every command: its progress on a terminal, its end if the system refuses something, a stream that can't be written,
+and a program whose answer counts as missing since it was killed before, in or after it, or couldn't continue."""
 
 import contextlib
 import errno
@@ -10,13 +9,14 @@ import signal
 import subprocess
 import sys
 import unittest
+from pathlib import Path
 from typing import Callable
 from unittest import mock
 
-from kit import TOP, folder
-
 from hinge import command
 from hinge.border.files import Exceeded
+from hinge.program import HINGE, dummynet, packets
+from kit import MIXED, TOP, folder, write
 
 CLEARED = "\r\x1b[K"
 ENVIRONMENT = {**os.environ, "PYTHONPATH": os.pathsep.join(sys.path)}
@@ -38,26 +38,25 @@ class Progress(unittest.TestCase):
             progress.done()
         return terminal.getvalue()
 
-    def test_it_begins_after_two_seconds_and_goes_on_each_half(self) -> None:
-        self.assertEqual(self.told([1.9, 2.1, 2.2, 2.7], Terminal()), f"{CLEARED}rows: 2,000{CLEARED}rows: 4,000{CLEARED}")
+    def test_it_begins_on_a_terminal_after_two_seconds_and_goes_on_each_half(self) -> None:
+        for moments, terminal, told in (
+            ([1.9, 2.1, 2.2, 2.7], Terminal(), f"{CLEARED}rows: 2,000{CLEARED}rows: 4,000{CLEARED}"),
+            ([0.5, 1.9], Terminal(), ""),
+            ([2.1, 9.0], io.StringIO(), ""),
+        ):
+            self.assertEqual(self.told(moments, terminal), told)
 
-    def test_a_short_command_tells_nothing(self) -> None:
-        self.assertEqual(self.told([0.5, 1.9], Terminal()), "")
 
-    def test_elsewhere_than_on_a_terminal_it_tells_nothing(self) -> None:
-        self.assertEqual(self.told([2.1, 9.0], io.StringIO()), "")
-
-
-class Steps(unittest.TestCase):
-    def test_a_bar_counts_steps_and_failures(self) -> None:
-        clock, terminal = mock.patch.object(command.time, "monotonic", side_effect=[0, 1, 2.5, 2.6, 4]), Terminal()
-        with clock, contextlib.redirect_stderr(terminal):
-            bar = command.Bar("runs", 8)
-            for failed in (False, True, False, False):
-                bar.step(failed)
-            bar.clear()
-        counts = f"{CLEARED}2 of 8 runs, 1 failed, 8 s left{CLEARED}4 of 8 runs, 1 failed, 4 s left{CLEARED}"
-        self.assertEqual(terminal.getvalue(), counts)
+def test_a_bar_counts_steps_and_failures() -> None:
+    clock = mock.patch.object(command.time, "monotonic", side_effect=[0, 1, 2.5, 2.6, 4])
+    terminal = Terminal()
+    with clock, contextlib.redirect_stderr(terminal):
+        bar = command.Bar("runs", 8)
+        for failed in (False, True, False, False):
+            bar.step(failed)
+        bar.clear()
+    counts = f"{CLEARED}2 of 8 runs, 1 failed, 8 s left{CLEARED}4 of 8 runs, 1 failed, 4 s left{CLEARED}"
+    assert terminal.getvalue() == counts
 
 
 class Working(unittest.TestCase):
@@ -69,14 +68,10 @@ class Working(unittest.TestCase):
                     command.time.sleep(0.005)
         return terminal.getvalue()
 
-    def test_what_takes_long_is_told_and_taken_away(self) -> None:
-        self.assertEqual(self.told(Terminal(), 0.01), f"{CLEARED}reading ..{CLEARED}")
-
-    def test_what_is_soon_done_is_not_told(self) -> None:
-        self.assertEqual(self.told(Terminal(), 60), CLEARED)
-
-    def test_elsewhere_than_on_a_terminal_nothing_is_told(self) -> None:
-        self.assertEqual(self.told(io.StringIO(), 0.0), "")
+    def test_what_takes_long_on_a_terminal_is_told_and_taken_away(self) -> None:
+        long = f"{CLEARED}reading ..{CLEARED}"
+        for terminal, after, told in ((Terminal(), 0.01, long), (Terminal(), 60, CLEARED), (io.StringIO(), 0.0, "")):
+            self.assertEqual(self.told(terminal, after), told)
 
 
 class Ends(unittest.TestCase):
@@ -109,7 +104,7 @@ class Ends(unittest.TestCase):
             (SystemExit(), 0, ""),
             (KeyboardInterrupt(), 130, ""),
         ):
-            self.assertEqual(self.ended(mock.Mock(side_effect=error)), (status, f"hinge some: {told}\n" * bool(told)))
+            self.assertEqual(self.ended(mock.Mock(side_effect=error)), (status, f"hinge some: {told}\n" if told else ""))
 
     def test_an_interrupt_while_python_loads_the_kit_ends_it_without_a_word(self) -> None:
         module, kit = folder() / "early" / "sitecustomize.py", TOP / "python" / "hinge" / "__main__.py"
@@ -147,3 +142,94 @@ class Streams(unittest.TestCase):
         words = ["sh", "-c", 'exec "$0" -m hinge packets - <&-', sys.executable]
         done = subprocess.run(words, cwd=folder(), env=ENVIRONMENT, capture_output=True, text=True)
         self.assertEqual((done.returncode, done.stdout, done.stderr), (6, "", "hinge packets: standard input is closed\n"))
+
+
+CONFIG = "pipe 1 config bw 8Mbit/s\n"
+ROWS = "moment,target,number,src,dst,proto,sport,dport,len,word\n0,pipe,1,1.1.1.1,2.2.2.2,17,1,2,1000,0\n"
+ENDS = {
+    "cat >/dev/null; kill -9 $$": "was ended by SIGKILL",
+    '"$real" "$@" 2>/dev/null | { head -c 30; kill -9 $$; }': "was ended by SIGKILL",
+    '"$real" "$@"; kill -9 $$': "was ended by SIGKILL",
+    "echo no room >&2; exit 5": "ended with status 5: no room",
+    "exit 127": "ended with status 127",
+}
+COMMANDS = (
+    ["check", "c"],
+    ["check", "p"],
+    ["check", "h"],
+    ["ipfw", "c"],
+    ["why", "1", "c", "p", "r"],
+    ["net", "n.net", "--dry-run"],
+    ["run", "--config", "c", "--", "true"],
+)
+OF_PACKETS = (["look", "h"], ["look", "p", "r"], ["why", "1", "h"], ["packets", MIXED, "-o", "out.csv"])
+
+
+class OfPrograms(unittest.TestCase):
+    def setUp(self) -> None:
+        self.place = folder() / "programs"
+        self.place.mkdir(exist_ok=True)
+        for name, text in (("c", CONFIG), ("p", ROWS), ("n.net", "host a\nhost b\nlink a b bw 1Mbit/s\n")):
+            (self.place / name).write_text(text)
+        subprocess.run(
+            [dummynet(), "replay", "c", "p", "--history", "h"], cwd=self.place, stdout=open(self.place / "r", "w"), check=True
+        )
+
+    def told(self, variable: str, real: str, end: str, words: "list[str]") -> str:
+        """Returns a command's message if this program in the place of the real one ends so."""
+        program = Path(write("programs/program", f"#!/bin/sh\nreal={real}\n{end}\n"))
+        program.chmod(0o755)
+        env = {**os.environ, variable: str(program)}
+        done = subprocess.run([*HINGE, *words], cwd=self.place, env=env, capture_output=True, text=True)
+        self.assertEqual((done.returncode, done.stdout), (6, ""), done.stderr)
+        return done.stderr
+
+    def test_what_was_killed_has_given_no_answer(self) -> None:
+        for end, told in ENDS.items():
+            for words in COMMANDS:
+                with self.subTest(end=end, words=words):
+                    message = self.told("DUMMYNET", dummynet(), end, words)
+                    self.assertRegex(message, rf"\Ahinge {words[0]}: (dummynet|program) (\w+ )?{told}\n\Z")
+
+    def test_no_more_has_a_reader_that_was_killed(self) -> None:
+        """Columns behind those that a command needs aren't read, so only a capture's answer always has an end."""
+        before, within, behind = "kill -9 $$", *list(ENDS)[1:3]
+        for end, commands in ((before, OF_PACKETS), (within, OF_PACKETS), (behind, OF_PACKETS[-1:])):
+            for words in commands:
+                with self.subTest(end=end, words=words):
+                    message = self.told("HINGE_PACKETS", packets(), end, words)
+                    self.assertEqual(message, f"hinge {words[0]}: hinge-packets was ended by SIGKILL\n")
+
+
+WRITING = (
+    ["help"],
+    [],
+    ["nonsense"],
+    ["check", "good"],
+    ["check", "bad"],
+    ["status", "nosuch"],
+    ["why"],
+    ["packets", MIXED, "-o", "streams.csv"],
+    ["run", "--quiet", "--server", "true", "--", "true"],
+)
+
+
+class OfStreams(unittest.TestCase):
+    def status(self, words: list[object], ends: str) -> tuple[int, str]:
+        script = f'exec 3>&2; {{ "$@"; }} {ends}; echo $?  >&3'
+        done = subprocess.run(["sh", "-c", script, "sh", *HINGE, *map(str, words)], capture_output=True, text=True, cwd=folder())
+        *told, status = done.stderr.splitlines()
+        return int(status), "\n".join(told)
+
+    def test_what_cannot_be_written_is_no_silent_fault(self) -> None:
+        write("good", "pipe 1 config\n"), write("bad", "pipe 1 confg\n")
+        for words in WRITING:
+            usual, _ = self.status(words, ">/dev/null 2>/dev/null")
+            for ends in (">/dev/full", "2>/dev/full", ">/dev/full 2>&1"):
+                with self.subTest(words=words, ends=ends):
+                    status, told = self.status(words, ends)
+                    self.assertIn(status, {usual, 6}, told)
+                    self.assertNotIn("Traceback", told)
+                    self.assertNotEqual(status, 120)
+            closed, _ = self.status(words, ">&- 2>&-")
+            self.assertEqual(closed, usual, words)

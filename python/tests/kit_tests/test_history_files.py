@@ -1,7 +1,5 @@
 """Histories, transcripts and packet files of each form, however their bytes come in blocks; and reports of live sessions."""
 
-from __future__ import annotations
-
 import os
 import random
 import shutil
@@ -13,8 +11,7 @@ from unittest.mock import patch
 from hinge.program import dummynet
 from hinge.replays.history import read_history
 from hinge.replays.replay import NONE, OUT, Replay, read_packets, read_report
-from kit import TOP, folder, mixed, needs_tshark, run, write
-from looked import history_of, live
+from kit import TOP, folder, history_of, live, mixed, needs_tshark, run, write
 
 SUBMIT = "c,0,submit,pipe,1,10.0.0.1,10.0.0.2,17,1,2,1000,0,"
 
@@ -29,10 +26,10 @@ class Forms(unittest.TestCase):
         self.assertEqual((done.returncode, done.stderr), (0, ""))
 
     def test_a_transcript_that_was_cut_anywhere(self) -> None:
-        """What stands in it is looked at: as many packets as there are calls with a reply, those out that were
-        delivered."""
+        """What stands in it is looked at: as many packets as there are calls with a reply, those out that were delivered."""
         submits = [f"c,0,submit,pipe,1,10.0.0.{row % 3},10.0.0.2,17,1,2,1000,0,{row * 700_000}" for row in range(8)]
-        configured, collects = "pipe 1 config bw 8Mbit/s queue 3", ["c,0,collect,2500000", "c,0,collect,90000000"]
+        configured = "pipe 1 config bw 8Mbit/s queue 3"
+        collects = ["c,0,collect,2500000", "c,0,collect,90000000"]
         whole = live([configured, *submits[:4], "next", collects[0], *submits[4:], collects[1]])
         self.assertIn("#,next,", whole)
         rng = random.Random(5)
@@ -49,8 +46,7 @@ class Forms(unittest.TestCase):
         self.assertIn(told_end, done.stderr)
 
     def test_a_transcript_of_each_form(self) -> None:
-        """Under either first record, with remarks and empty lines between entries, quotes and other line ends, of any
-        caller."""
+        """Under either first record, with remarks and empty lines between entries, quotes and other line ends, of any caller."""
         other = SUBMIT.replace("c,0", "c,15").replace("pipe,1", "queue,9")
         whole = live(["pipe 1 config bw 8Mbit/s", f"{SUBMIT}5", f"{other}6", "c,3,collect,5000000", "c,3,show"])
         forms = [
@@ -132,7 +128,8 @@ class Blocks(unittest.TestCase):
         """Its changes, remarks, line ends and quotes."""
         lines = [f"pipe 1 config bw 8Mbit/s delay {row}\n{SUBMIT}{row * 900_000}\nc,0,show" for row in range(6)]
         text = live([*lines, "next", "c,0,collect,9000000"]).replace("\nend,", "\n#,late,1000000000,5,6,7,8\n#,seed,5\nend,")
-        path, readers = folder() / "blocks.history", [reader(size) for size in (1, 7, 300)]
+        path = folder() / "blocks.history"
+        readers = [reader(size) for size in (1, 7, 300)]
         for form in (text, text.replace("\n", "\r\n"), text.replace("pipe,1", '"pipe","1"'), text[:-6], text + "\n\n"):
             path.write_bytes(form.encode())
             one = read_history(str(path))
@@ -146,19 +143,16 @@ class Blocks(unittest.TestCase):
 
 
 @needs_tshark
-class OnePipe(unittest.TestCase):
-    def test_the_report_of_a_live_session_is_that_of_the_replay(self) -> None:
-        """For losses, full queues and targets that aren't configured."""
-        for name in ("dsl", "shared"):
-            config, packets, report = mixed(name)
-            calls = [line for line in config.read_text().splitlines() if not line.startswith("#")]
-            for row, line in enumerate(packets.read_text().splitlines()[1:], 1):
-                moment, *rest = line.split(",")
-                calls += [f"c,0,submit,{','.join(rest)},{moment}", *[f"c,0,collect,{moment}"][: row % 1000 == 0]]
-            calls.append(f"c,0,collect,{2**62}")
-            session = subprocess.run(
-                [dummynet(), "live"], input="\n".join(calls) + "\n", capture_output=True, text=True, check=True
-            )
-            script = TOP / "examples" / "live" / "live_report.py"
-            done = subprocess.run([sys.executable, script], input=session.stdout, capture_output=True, text=True)
-            self.assertEqual((done.stdout, done.stderr), (report.read_text(), ""))
+def test_the_report_of_a_live_session_is_that_of_the_replay() -> None:
+    """For losses, full queues and targets that aren't configured."""
+    for name in ("dsl", "shared"):
+        config, packets, report = mixed(name)
+        calls = [line for line in config.read_text().splitlines() if not line.startswith("#")]
+        for row, line in enumerate(packets.read_text().splitlines()[1:], 1):
+            moment, *rest = line.split(",")
+            calls += [f"c,0,submit,{','.join(rest)},{moment}", *[f"c,0,collect,{moment}"][: row % 1000 == 0]]
+        calls.append(f"c,0,collect,{2**62}")
+        session = subprocess.run([dummynet(), "live"], input="\n".join(calls) + "\n", capture_output=True, text=True, check=True)
+        script = TOP / "examples" / "live" / "live_report.py"
+        done = subprocess.run([sys.executable, script], input=session.stdout, capture_output=True, text=True)
+        assert (done.stdout, done.stderr) == (report.read_text(), "")

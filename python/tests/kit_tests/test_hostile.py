@@ -1,7 +1,5 @@
 """Histories, packet files and texts that nobody would write: each ends with a line and a status, in time and memory in proportion to its length."""
 
-from __future__ import annotations
-
 import os
 import subprocess
 import sys
@@ -167,7 +165,9 @@ class Hostile(WithFolder):
     def setUp(self) -> None:
         super().setUp()
         (self.folder / "net").mkdir()
-        self.file, self.net, self.config = self.folder / "x", self.folder / "net" / "net.history", self.folder / "c"
+        self.file = self.folder / "x"
+        self.net = self.folder / "net" / "net.history"
+        self.config = self.folder / "c"
         self.config.write_text("pipe 1 config\n")
         self.net.write_bytes(HISTORY)
         (self.folder / "t").write_text("1\n")

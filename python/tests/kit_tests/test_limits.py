@@ -1,7 +1,5 @@
 """Inputs that are one step over a limit of SECURITY.md, and those that may be longer than others."""
 
-from __future__ import annotations
-
 from unittest import mock
 
 from linked import needs_rooms

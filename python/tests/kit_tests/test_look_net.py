@@ -1,7 +1,5 @@
 """`hinge look` on a net's folder: ways, paths hop by hop, changes with their moments, and the picture."""
 
-from __future__ import annotations
-
 import json
 import unittest
 from pathlib import Path
@@ -23,12 +21,10 @@ CUT_FROM, CUT_TO = 4 * SECOND, 6 * SECOND
 def cut_link() -> str:
     """A packet of 1,250 bytes each 100 ms for 10 s over a - r, of 10 ms; the way to r is cut from 4 s to 6 s, and then
     is one of 20 ms."""
-    lines, entries, number, changes = (
-        ["dummynet-live,1", *(line.strip() for line in HOSTS), "#,seed,7"],
-        0,
-        0,
-        [(CUT_FROM, "delay 10 plr 1"), (CUT_TO, "delay 20")],
-    )
+    lines = ["dummynet-live,1", *(line.strip() for line in HOSTS), "#,seed,7"]
+    entries = 0
+    number = 0
+    changes = [(CUT_FROM, "delay 10 plr 1"), (CUT_TO, "delay 20")]
     for pipe in (1, 2, 3, 4):
         lines += [f"c,0,configure,pipe {pipe} config delay 10", "r,configured"]
         entries += 1
@@ -37,7 +33,8 @@ def cut_link() -> str:
             at, words = changes.pop(0)
             lines += [f"c,0,advance,{at}", f"r,advanced,{at}", f"c,0,configure,pipe 1 config {words}", "r,configured"]
             entries += 2
-        is_lost, due = CUT_FROM <= moment < CUT_TO, moment + (10 if moment < CUT_TO else 20) * MS
+        is_lost = CUT_FROM <= moment < CUT_TO
+        due = moment + (10 if moment < CUT_TO else 20) * MS
         lines += [
             f"#,content,{number:016x}",
             f"c,0,submit,pipe,1,10.8.0.1,10.8.0.3,17,1,2,1250,0,{moment}",
@@ -67,20 +64,9 @@ class OfNets(unittest.TestCase):
         lines, told = self.looked(cut_link())
         assert lines[1].split() == "a > r 100 20 0 0.081 15.000 20.000".split()  # 80 x 10,000 bits in 9.91 s
         assert lines[-5:-2] == ["     4.000 s  a > r: cut", "     6.000 s  a > r: delay 20", ""]
-        assert told["ways"] == [
-            {
-                "pipe": 1,
-                "from": "a",
-                "to": "r",
-                "packets": 100,
-                "lost": 20,
-                "full": 0,
-                "carried_mbit_s": 800_000 / 9_910_000,
-                "mean_ns": 15 * MS,
-                "p99_ns": 20 * MS,
-            }
-        ]
-        assert told["cuts"] == [{"pipe": 1, "from": "a", "to": "r", "begin_ns": CUT_FROM, "end_ns": CUT_TO}]
+        way, counts = {"pipe": 1, "from": "a", "to": "r"}, {"packets": 100, "lost": 20, "full": 0}
+        assert told["ways"] == [{**way, **counts, "carried_mbit_s": 800_000 / 9_910_000, "mean_ns": 15 * MS, "p99_ns": 20 * MS}]
+        assert told["cuts"] == [{**way, "begin_ns": CUT_FROM, "end_ns": CUT_TO}]
         assert [(change["moment_ns"], change["line"], change["cut"]) for change in told["changes"]] == [
             (CUT_FROM, "delay 10", True),
             (CUT_TO, "delay 20", False),
@@ -109,23 +95,16 @@ class OfNets(unittest.TestCase):
 
     def test_a_cut_that_has_no_end(self) -> None:
         text = cut_link()
-        begin, end = text.index("c,0,advance,6000000000"), text.index("#,content", text.index("c,0,advance,6000000000"))
+        begin = text.index("c,0,advance,6000000000")
+        end = text.index("#,content", text.index("c,0,advance,6000000000"))
         _, told = self.looked(text[:begin] + text[end:])
         assert [(cut["begin_ns"], cut["end_ns"]) for cut in told["cuts"]] == [(CUT_FROM, 9_920 * MS)]
 
     def test_paths_hop_by_hop(self) -> None:
         lines, told = self.looked(Net(good, [Packet(place) for place in range(40)]).text)
         assert "a - r - b: 40 packets, 15.050 ms: links 10.000 + 5.000, hosts 0.050, at most 0.050" in lines
-        assert told["paths"] == [
-            {
-                "hosts": ["a", "r", "b"],
-                "pipes": [1, 3],
-                "packets": 40,
-                "links_ns": [10 * MS, 5 * MS],
-                "hosts_ns": [50_000],
-                "most_in_hosts_ns": 50_000,
-            }
-        ]
+        path = {"hosts": ["a", "r", "b"], "pipes": [1, 3], "packets": 40}
+        assert told["paths"] == [{**path, "links_ns": [10 * MS, 5 * MS], "hosts_ns": [50_000], "most_in_hosts_ns": 50_000}]
         assert (told["changes"], told["cuts"]) == ([], [])
 
     def test_pictures(self) -> None:
@@ -150,12 +129,8 @@ class OfNets(unittest.TestCase):
         assert done.returncode == 0, done.stderr
         assert "late by 5 ms and packets lay unread for 1 ms" in done.stderr
         drawn = (folder() / "x.svg").read_text()
-        for name in (
-            "The net: width by load; dashed: cut for a time",
-            "a &gt; r: 10ms; ",
-            "late, at most 5 ms",
-            "The links' lateness",
-        ):
+        net = "The net: width by load; dashed: cut for a time"
+        for name in (net, "a &gt; r: 10ms; ", "late, at most 5 ms", "The links' lateness"):
             assert f"<!-- {name}" in drawn
 
     def test_hosts_stand_apart(self) -> None:
@@ -179,13 +154,11 @@ class OfNets(unittest.TestCase):
 
     def test_its_page_has_the_words_of_links_and_why_of_packets(self) -> None:
         place = self.session(cut_link())
-        self.assertEqual(run("look", place, "-o", place / "x.html").returncode, 0)
+        assert run("look", place, "-o", place / "x.html").returncode == 0
         drawn = drawn_by((place / "x.html").read_text())
-        self.assertEqual(drawn["title"].split("; ")[0], "a - r 10ms")
+        assert drawn["title"].split("; ")[0] == "a - r 10ms"
         [delays] = [panel for panel in drawn["panels"] if panel["title"] == "Delay on each way: over a packet, why"]
-        self.assertTrue(
-            delays["items"][0]["words"][3].startswith("a > r: Row 4 (udp 10.8.0.1:1 > 10.8.0.3:2, 1,250 bytes)"), delays
-        )
+        assert delays["items"][0]["words"][3].startswith("a > r: Row 4 (udp 10.8.0.1:1 > 10.8.0.3:2, 1,250 bytes)"), delays
 
     def test_what_is_refused(self) -> None:
         place = self.session(cut_link())

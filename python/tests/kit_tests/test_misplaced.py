@@ -1,8 +1,6 @@
 """Words of a command line that belong elsewhere, each answered by the line to type: files of another kind, options of older
 versions, and what people try first."""
 
-from __future__ import annotations
-
 import re
 import shlex
 import shutil
@@ -11,6 +9,7 @@ import unittest
 from kit import MIXED, folder, run
 
 from hinge.misplaced import FRONTS, MEANT, TAKES, advised, kind_of
+from hingetulip_words.values import EXAMPLES
 
 
 FRONT = {  # of a file of each kind, which comments and blank lines may precede
@@ -32,7 +31,7 @@ FRONT = {  # of a file of each kind, which comments and blank lines may precede
     "trace": b"0.5,1000\n",
 }
 # Command lines, in which FILE.KIND is a file of that kind, and what is said at their end.
-LINES = r"""
+LINES = rf"""
 look FILE.net  =>  hinge net FILE.net --transcripts FOLDER, and hinge look FOLDER
 look FILE.report  =>  FILE.report is a replay's report; write hinge look PACKETS FILE.report
 look FILE.packets FILE.config  =>  write hinge look FILE.packets REPORT --config FILE.config
@@ -62,7 +61,7 @@ run --link 1ms -- FILE.program  =>  there is no FILE.program on the path: write 
 run --link 1ms -- 'ping server'  =>  there is no ping server on the path: write sh -c 'ping server'
 run -l 20ms -- true  =>  -l: write --link 20ms
 run --frob -- true  =>  unrecognized arguments: --frob; `hinge help run` lists the options
-run --link '20ms packet loss 5%' -- true  =>  'packet': not an option; write 10Mbit/s, 20ms, queue 100, loss 1%, jitter 5ms, duplicate 1% or corrupt 1%
+run --link '20ms packet loss 5%' -- true  =>  'packet': not an option; write {', '.join(EXAMPLES[:-1])} or {EXAMPLES[-1]}
 run --link 'up 1Mbit/s down 2Mbit/s' -- true  =>  'up': one way of a link; write --up LINK --down LINK, or LINK / LINK in a net's line
 try wifi  =>  write --preset lossy-wifi
 why FILE.history 5  =>  'FILE.history' isn't the number of a row; FILE.history is a history; write hinge why 5 FILE.history
@@ -183,7 +182,7 @@ class Misplaced(unittest.TestCase):
         lists = {"act": "at 1s up 5ms", "late": "1s: 5ms", "lost": "client -> server packet 3 dropped", "script": "#!/bin/sh"}
         nets = {f"{name}.net": line for name, line in nets.items()}
         for name, line in {**nets, **{f"FILE.{name}": line for name, line in lists.items()}}.items():
-            (folder() / name).write_text("host a sleep 9\nhost b sleep 9\nlink a b 1ms\n" * name.endswith(".net") + line)
+            (folder() / name).write_text(("host a sleep 9\nhost b sleep 9\nlink a b 1ms\n" if name.endswith(".net") else "") + line)
         shutil.copy(MIXED, folder() / "FILE.capture")
 
     def test_each_kind_is_known_by_its_front(self) -> None:

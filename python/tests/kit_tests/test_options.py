@@ -1,8 +1,6 @@
 """The command line of every command: no option is abbreviated, thrown away for a second one, empty, unread or without effect. The
 options are those that the parsers have, so that a new one is tried too."""
 
-from __future__ import annotations
-
 import argparse
 import ast
 import contextlib
@@ -213,8 +211,7 @@ OF_DUMMYNET = ("replay", "audit", "live")
 class Advised(unittest.TestCase):
     def test_each_command_of_a_message_is_there_with_its_options(self) -> None:
         """Each `hinge` or `dummynet` command that a message of the kit recommends exists, and each `hinge` command accepts the
-        options in the message. An X stands for each value that a message inserts.
-        """
+        options in the message. An X stands for each value that a message inserts."""
         lines = set[str]()
         for path in (TOP / "python").glob("hinge*/**/*.py"):
             for node in ast.walk(ast.parse(path.read_text())):

@@ -1,12 +1,10 @@
 """`hinge check --model`: operations of clients against all of their orders, one by one, and against tables made by hand."""
 
-from __future__ import annotations
-
 import json
 import random
 import unittest
 from itertools import chain, combinations, permutations
-from typing import Any, Iterator, Optional
+from typing import Any, Iterator, Optional, Union
 
 from kit import folder, run
 
@@ -182,7 +180,7 @@ BAD = {  # a line, and what is said of it
 }
 
 
-def check(rows: list[Row] | str, model: str) -> tuple[int, str, str]:
+def check(rows: Union[list[Row], str], model: str) -> tuple[int, str, str]:
     path = folder() / "ops.jsonl"
     path.write_text(rows if isinstance(rows, str) else "".join(json.dumps(one) + "\n" for one in rows))
     done = run("check", path, "--model", model)
@@ -217,7 +215,7 @@ class Command(unittest.TestCase):
         self.assertEqual(check([{**written, "value": {"a": 1, "b": 2}}, {**read, "result": {"b": 2, "a": 1}}], "register")[0], 0)
 
     def test_without_a_result_or_a_model_nothing_is_judged(self) -> None:
-        files: list[list[Row] | str] = ["", [row(STALE[0])], [row("1 x read 1 from 0 to never")]]
+        files: list[Union[list[Row], str]] = ["", [row(STALE[0])], [row("1 x read 1 from 0 to never")]]
         for rows in files:
             status, out, _ = check(rows, "register")
             self.assertEqual((status, "nothing can be judged" in out), (4, True))

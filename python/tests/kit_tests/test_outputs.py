@@ -1,7 +1,5 @@
 """Outputs of commands: none is an input, under whatever name, and a command that fails leaves the older file."""
 
-from __future__ import annotations
-
 import errno
 import os
 import shutil
@@ -67,7 +65,9 @@ class Outputs(unittest.TestCase):
         self.refused(capture, "look", packets, report, "--capture", capture, "--index", folder() / "shared.index", "-o", capture)
 
     def test_what_fails_leaves_the_older_file(self) -> None:
-        packets, wrong, report = write("f.csv", ROWS), write("f.wrong", "no report\n"), write("f.report", "older\n")
+        packets = write("f.csv", ROWS)
+        wrong = write("f.wrong", "no report\n")
+        report = write("f.report", "older\n")
         self.assertEqual(4, run("look", packets, wrong, "--json", report).returncode)
         self.assertEqual("older\n", report.read_text())
         report.chmod(0o640)
@@ -169,7 +169,6 @@ class OfScratch(unittest.TestCase):
     def holder(self) -> tuple[subprocess.Popen[str], Path]:
         """A process with such a folder, and its folder."""
         process = subprocess.Popen([sys.executable, "-c", SCRATCH, str(self.place)], stdout=subprocess.PIPE, text=True)
-        assert process.stdout
         return process, Path(process.stdout.readline().strip())
 
     def ended(self, process: subprocess.Popen[str], number: int) -> int:

@@ -1,7 +1,5 @@
 """`hinge packets` over captures of every form and of every kind of link."""
 
-from __future__ import annotations
-
 import contextlib
 import gzip
 import io
@@ -17,15 +15,23 @@ from random_frames import Frames
 from tshark_frames import frames_by_kit, frames_by_tshark
 
 from hinge.command import Fault
-from packets_told import edited
+
+
+def edited(name: str, capture: Path, *words: str) -> Path:
+    """What editcap makes of a capture."""
+    subprocess.run(["editcap", *words, str(capture), str(folder() / name)], check=True, capture_output=True)
+    return folder() / name
 
 
 def every_capture() -> list[Path]:
     """Those that the tests write, mixed.pcap, and some of them in other forms."""
     odd_ethernet(folder() / "odd.pcap")
     other_links(folder())
-    several, raw = nested(folder()), (folder() / "raw.pcap").read_bytes()
-    half, swapped, twice = folder() / "half.pcap", folder() / "swapped.pcap", folder() / "twice.pcapng"
+    several = nested(folder())
+    raw = (folder() / "raw.pcap").read_bytes()
+    half = folder() / "half.pcap"
+    swapped = folder() / "swapped.pcap"
+    twice = folder() / "twice.pcapng"
     half.write_bytes(MIXED.read_bytes()[:50_000])
     packet = raw[40 : 40 + int.from_bytes(raw[32:36], "little")]
     # in microseconds
@@ -108,26 +114,24 @@ class Hostile(unittest.TestCase):
             self.assertEqual((done.returncode, line in done.stderr), (status, True), done.stderr)
 
 
-class Forms(unittest.TestCase):
+def test_no_other_program_is_needed() -> None:
     """Captures are read without any other program."""
-
-    def test_no_other_program_is_needed(self) -> None:
-        odd_ethernet(folder() / "odd.pcap")
-        alone = {**os.environ, "PATH": ""}
-        done = run("packets", "odd.pcap", "-o", "alone.csv", env=alone)
-        self.assertEqual(done.returncode, 0, done.stderr)
-        self.assertEqual(len(rows_of(folder() / "alone.csv")), 11)
-        (folder() / "text.pcap").write_text("no capture")
-        write(folder() / "other.pcap", 147, [(0, bytes(60))])
-        without_times(folder() / "timeless.pcapng")
-        for words, status, line in (
-            ([MIXED, "--map", "tcp.flags.syn == 1 => pipe 9"], 2, "'tcp.flags.syn': not a word of a rule; write "),
-            (["text.pcap"], 4, "neither pcap nor pcapng"),
-            (["other.pcap"], 4, "frame 1 has the link type 147, and none is known of these: 0, 1, 9"),
-            (["timeless.pcapng"], 4, "frame 1 of the capture has no time"),
-            (["missing.pcap"], 6, "missing.pcap"),
-        ):
-            done = run("packets", *words, env=alone)
-            self.assertEqual(done.returncode, status, done.stderr)
-            self.assertIn(line, done.stderr.splitlines()[-1])
-            self.assertNotIn("Traceback", done.stderr)
+    odd_ethernet(folder() / "odd.pcap")
+    alone = {**os.environ, "PATH": ""}
+    done = run("packets", "odd.pcap", "-o", "alone.csv", env=alone)
+    assert done.returncode == 0, done.stderr
+    assert len(rows_of(folder() / "alone.csv")) == 11
+    (folder() / "text.pcap").write_text("no capture")
+    write(folder() / "other.pcap", 147, [(0, bytes(60))])
+    without_times(folder() / "timeless.pcapng")
+    for words, status, line in (
+        ([MIXED, "--map", "tcp.flags.syn == 1 => pipe 9"], 2, "'tcp.flags.syn': not a word of a rule; write "),
+        (["text.pcap"], 4, "neither pcap nor pcapng"),
+        (["other.pcap"], 4, "frame 1 has the link type 147, and none is known of these: 0, 1, 9"),
+        (["timeless.pcapng"], 4, "frame 1 of the capture has no time"),
+        (["missing.pcap"], 6, "missing.pcap"),
+    ):
+        done = run("packets", *words, env=alone)
+        assert done.returncode == status, done.stderr
+        assert line in done.stderr.splitlines()[-1]
+        assert "Traceback" not in done.stderr

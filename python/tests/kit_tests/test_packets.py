@@ -1,7 +1,5 @@
 """Packet files from captures, against the packets that were written, and against what tshark finds."""
 
-from __future__ import annotations
-
 import re
 import shlex
 import subprocess

@@ -1,8 +1,6 @@
 """`hinge look` of a net between its links: one in which nothing happened between the links but what a router should do, and what is planted
 there."""
 
-from __future__ import annotations
-
 import json
 import re
 import unittest
@@ -75,17 +73,12 @@ class Paths(unittest.TestCase):
         def every_fifth(planted: Router) -> Router:
             return lambda number, packet: planted(number, packet) if number % 5 == 0 else good(number, packet)
 
+        replaced = {"came from nowhere": 8, "lost in a host": 8}
         plants: tuple[tuple[Router, dict[str, int]], ...] = (
             (every_fifth(lambda _, packet: []), {"lost in a host": 8}),
             (every_fifth(lambda _, packet: [(50_000, packet)] * 2), {"came twice": 8}),
-            (
-                every_fifth(lambda _, packet: [(50_000, packet._replace(content=packet.content ^ 1 << 40))]),
-                {"came from nowhere": 8, "lost in a host": 8},
-            ),
-            (
-                every_fifth(lambda _, packet: [(50_000, packet._replace(length=1499))]),
-                {"came from nowhere": 8, "lost in a host": 8},
-            ),
+            (every_fifth(lambda _, packet: [(50_000, packet._replace(content=packet.content ^ 1 << 40))]), replaced),
+            (every_fifth(lambda _, packet: [(50_000, packet._replace(length=1499))]), replaced),
             (every_fifth(lambda number, packet: [(50_000, packet), (60_000, Packet(10**9 + number))]), {"came from nowhere": 8}),
             (lambda number, packet: [(2_500_000 if number % 5 == 0 and number < 40 else 50_000, packet)], {"out of order": 7}),
             (
@@ -193,7 +186,8 @@ class Paths(unittest.TestCase):
         text = Net(good, [Packet(place) for place in range(20)]).text
         place = folder() / "parts"
         place.mkdir(exist_ok=True)
-        first, second = text, Net(good, [Packet(100 + place) for place in range(10)]).text
+        first = text
+        second = Net(good, [Packet(100 + place) for place in range(10)]).text
         (place / "net.history").write_text(first)
         (place / "net.history.1").write_text(
             "".join(line for line in second.splitlines(True) if not line.startswith(("#,host", "#,pipe")))
@@ -205,12 +199,8 @@ class Paths(unittest.TestCase):
     def test_what_ends_at_the_next_host(self) -> None:
         """A packet ends at the next host because of its group, as in OSPF and mDNS, a broadcast, a source limited to the link, or
         its time to live."""
-        ones = [
-            Packet(number, dst=address)
-            for number, address in enumerate(
-                ("224.0.0.5", "224.0.0.251", "255.255.255.255", "10.8.0.255", "240.0.0.1", "240.0.0.2", "240.0.0.3")
-            )
-        ]
+        groups = "224.0.0.5 224.0.0.251 255.255.255.255 10.8.0.255 240.0.0.1 240.0.0.2 240.0.0.3".split()
+        ones = [Packet(number, dst=address) for number, address in enumerate(groups)]
         ones += [Packet(100, last=True), Packet(101, "0.0.0.0", "255.255.255.255"), Packet(102, dst="239.9.9.9", last=True)]
         names = "".join(
             f"#,address,240.0.0.{place},{address}\n" for place, address in enumerate(("ff02::fb", "ff12::99", "fe80::1"), 1)
@@ -266,7 +256,8 @@ class Paths(unittest.TestCase):
         def router(number: int, packet: Packet) -> list[tuple[int, Packet]]:
             return good(number, packet) if is_handed_on(packet) else []
 
-        chosen, faults = Random(6), ("lost", "changed", "twice", "forged", "swapped")
+        chosen = Random(6)
+        faults = ("lost", "changed", "twice", "forged", "swapped")
         packets = [
             Packet(1 + place, dst=chosen.choice(("10.8.0.2",) * 3 + ("224.0.0.5", "239.1.1.1")), last=chosen.random() < 0.2)
             for place in range(80)
@@ -297,8 +288,7 @@ class Paths(unittest.TestCase):
         assert (status, lines[-2]) == (0, "10 packets on links, 5 handed on by hosts, 5 arrived")
 
     def test_what_a_host_leads_outside(self) -> None:
-        """The router gets packets for 192.0.2.1 and sends on answers of it, which is no fault where it leads
-        outside."""
+        """The router gets packets for 192.0.2.1 and sends on answers of it, which is no fault where it leads outside."""
 
         def router(number: int, packet: Packet) -> list[tuple[int, Packet]]:
             return [(0, packet._replace(src=packet.dst, dst=packet.src, content=packet.content + 1))]
@@ -314,7 +304,7 @@ class Paths(unittest.TestCase):
         for text, wanted in (
             ("x\n", "net.history line 1: no history of dummynet, and no live session"),
             (
-                "dummynet-live,1\nc,0,submit,pipe,1,10.0.0.1,10.0.0.2,17,1,2,1000,0,0\n" "r,queued,0,0,0\nend,1\n",
+                "dummynet-live,1\nc,0,submit,pipe,1,10.0.0.1,10.0.0.2,17,1,2,1000,0,0\nr,queued,0,0,0\nend,1\n",
                 "net.history: no remark says between which hosts pipe 1 is: hinge net writes them",
             ),
             (
@@ -326,12 +316,6 @@ class Paths(unittest.TestCase):
             (folder() / "lone" / "net.history").write_text(text)
             done = run("look", "lone")
             assert (done.returncode, done.stdout, done.stderr) == (4, "", f"hinge look: lone/{wanted}\n")
-        assert self.told("dummynet-live,1\nend,0\n") == (
-            0,
-            [
-                "way  packets  lost  full  Mbit/s  mean ms  p99 ms",
-                "",
-                "0 packets on links, 0 handed on by hosts, 0 arrived",
-                "lawful between links",
-            ],
-        )
+        head = "way  packets  lost  full  Mbit/s  mean ms  p99 ms"
+        nothing = [head, "", "0 packets on links, 0 handed on by hosts, 0 arrived", "lawful between links"]
+        assert self.told("dummynet-live,1\nend,0\n") == (0, nothing)

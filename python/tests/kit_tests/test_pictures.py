@@ -1,6 +1,5 @@
-"""Pictures have the series that they should: read from the figure and the page, not from the pixels."""
-
-from __future__ import annotations
+"""Pictures have the series that they should: read from the figure and the page, not from the pixels. `hinge look OPERATIONS --model`: its
+picture, and its refusals."""
 
 import gzip
 import json
@@ -11,17 +10,19 @@ from base64 import b64decode
 from typing import Any
 
 import numpy as np
-from kit import folder, mixed, needs_tshark, parts_of, rows_of, run, write
-from looked import live
 
+from hinge.checks.operations import MODELS, Operation, operations_of
+from hinge.pictures.drawing import Bars, Line
 from hinge.pictures.drawn import of_run
 from hinge.pictures.html_page import HtmlPage, outline, teller
+from hinge.pictures.operations import Shade, operations_drawing, shades_of
 from hinge.pictures.panels import MOST_FLOWS, drawing
 from hinge.pictures.series import NS_PER_MS, NS_PER_S, Series, Steps, fitting_step, round_step, series, span_of, thinned
 from hinge.replays.explain import Explainer
 from hinge.replays.groups import group
 from hinge.replays.history import read_sources
 from hinge.replays.replay import read_packets, read_report
+from kit import folder, live, mixed, needs_tshark, parts_of, rows_of, run, write
 from pictured import figure, forty, full_link, matplotlib_there, series_of
 
 
@@ -36,18 +37,17 @@ def series_of_forty() -> Series:
     return series(replay, group(replay, "tuple").largest(replay.packets.length, 3), 1000, span_of([replay]))
 
 
-class OfARun(unittest.TestCase):
-    def test_a_picture_has_the_words_of_the_link_and_its_cuts(self) -> None:
-        """1 % and 2 Mbit/s as they were typed, and a cut from 1 to 2 s."""
-        words = "bw 2000000bit/s delay 20 plr 0.009999999776482583"
-        lines = [f"pipe {number} config {words}" for number in (1, 2)]
-        submit, cut = "c,0,submit,pipe,1,10.0.0.1,10.0.0.2,17,1,2,1000,2147483647,", "pipe 1 config bw 2000000bit/s delay 20 plr 1"
-        later = [f"{submit}1500000000", "c,0,advance,2000000000", lines[0], "c,0,collect,3000000000"]
-        text = live([*lines, f"{submit}0", "c,0,advance,1000000000", cut, *later])
-        path = write("run.history", text.replace("\n", "\n#,seed,7\n", 1))
-        [source] = read_sources([str(path)], None)
-        self.assertEqual(of_run(source), "2Mbit/s 20ms loss 1%")
-        self.assertEqual(Explainer(source.explained()).shades(3 * 10**9), {(10**9, 2 * 10**9)})
+def test_a_picture_has_the_words_of_the_link_and_its_cuts() -> None:
+    """1 % and 2 Mbit/s as they were typed, and a cut from 1 to 2 s."""
+    words = "bw 2000000bit/s delay 20 plr 0.009999999776482583"
+    lines = [f"pipe {number} config {words}" for number in (1, 2)]
+    submit, cut = "c,0,submit,pipe,1,10.0.0.1,10.0.0.2,17,1,2,1000,2147483647,", "pipe 1 config bw 2000000bit/s delay 20 plr 1"
+    later = [f"{submit}1500000000", "c,0,advance,2000000000", lines[0], "c,0,collect,3000000000"]
+    text = live([*lines, f"{submit}0", "c,0,advance,1000000000", cut, *later])
+    path = write("run.history", text.replace("\n", "\n#,seed,7\n", 1))
+    [source] = read_sources([str(path)], None)
+    assert of_run(source) == "2Mbit/s 20ms loss 1%"
+    assert Explainer(source.explained()).shades(3 * 10**9) == {(10**9, 2 * 10**9)}
 
 
 @needs_tshark
@@ -177,18 +177,17 @@ class Titles(unittest.TestCase):
         np.testing.assert_equal(y, [3, 3, 3, 3, 1, 1, 1, 1, nan, 3, 3, 1, 1, nan])
 
 
-class Endings(unittest.TestCase):
-    @unittest.skipUnless(matplotlib_there(), "matplotlib isn't there")
-    def test_forty_flows_and_each_ending_with_the_same_bytes_each_time(self) -> None:
-        packets, report = forty()
-        for ending, begin in ((".png", b"\x89PNG"), (".svg", b"<?xml"), (".pdf", b"%PDF"), (".html", b"<!DOCTYPE html>")):
-            for name in ("forty", "again"):
-                done = run("look", packets, report, "-o", f"{name}{ending}")
-                self.assertEqual(done.returncode, 0, done.stderr)
-            one, other = ((folder() / f"{name}{ending}").read_bytes() for name in ("forty", "again"))
-            self.assertTrue(one.startswith(begin))
-            self.assertTrue(one == other, ending)
-        self.assertIn(f"{40 - MOST_FLOWS} others", (folder() / "forty.svg").read_text())
+@unittest.skipUnless(matplotlib_there(), "matplotlib isn't there")
+def test_forty_flows_and_each_ending_with_the_same_bytes_each_time() -> None:
+    packets, report = forty()
+    for ending, begin in ((".png", b"\x89PNG"), (".svg", b"<?xml"), (".pdf", b"%PDF"), (".html", b"<!DOCTYPE html>")):
+        for name in ("forty", "again"):
+            done = run("look", packets, report, "-o", f"{name}{ending}")
+            assert done.returncode == 0, done.stderr
+        one, other = ((folder() / f"{name}{ending}").read_bytes() for name in ("forty", "again"))
+        assert one.startswith(begin)
+        assert one == other, ending
+    assert f"{40 - MOST_FLOWS} others" in (folder() / "forty.svg").read_text()
 
 
 @needs_tshark
@@ -225,3 +224,66 @@ class Thinning(unittest.TestCase):
             steps = Steps(10, span)
             self.assertEqual((steps.rated, int(steps.widths[-1])), (rated, width), span)
             self.assertEqual(len(steps.edges), rated + 1)
+
+
+NET = "host a x\nhost b x\nmain c true\nlink a b\nlink c a\n"
+FAULTS = "at 1s cut a from b 2s\nat 5s kill b\nat 7s restart b\nat 50s stop b 1s\n"
+LOST = [
+    {"client": "w", "key": 0, "op": "add", "value": 1, "begin": 2, "end": 2.5},
+    {"client": "w", "key": 0, "op": "add", "value": 2, "begin": 3},
+    {"client": "r", "key": 0, "op": "read", "result": [], "begin": 6, "end": 9},
+]
+
+
+def operations(*rows: dict[str, object]) -> list[Operation]:
+    return operations_of("rows", "\n".join(map(json.dumps, rows)).encode(), MODELS["set"])[0]["0"]
+
+
+class Pictures(unittest.TestCase):
+    def test_bars_and_shades_are_at_the_places_of_their_moments(self) -> None:
+        """The moments are 1, 2, 2.5, 3, 5, 6, 7 and 9 s; what never returned goes on behind them."""
+        shades = shades_of(str(write("f.net", NET + FAULTS)))
+        self.assertEqual(shades[:2], [Shade(1, 3, "at 1s cut a from b 2s"), Shade(5, 7, "at 5s kill b")])
+        drawing = operations_drawing("ops", operations(*LOST), shades)
+        assert drawing.panels[0] is not None
+        faults, *bars = drawing.panels[0].items
+        assert isinstance(faults, Bars) and all(isinstance(bar, Line) for bar in bars)
+        self.assertEqual(faults.counts.tolist(), [2, 2, 2, 0, 2, 2, 0, 0])
+        self.assertEqual([(bar.x.tolist(), float(bar.y[0])) for bar in bars], [([1, 2], 0.5), ([3, 7.5], 0.5), ([5, 7], 1.5)])
+        self.assertEqual((drawing.panels[0].rows, drawing.panels[0].names[1:4]), (["w", "r"], ["2.000", "2.500", "3.000"]))
+        self.assertEqual(drawing.below, ["at 1s cut a from b 2s", "at 5s kill b"])
+
+    def test_the_net_of_a_failure(self) -> None:
+        failure = write("failure.hinge", json.dumps({"words": ["net", "x"], "net": (NET + FAULTS).splitlines()}))
+        self.assertEqual(shades_of(str(failure))[1].words, "at 5s kill b")
+        self.assertEqual(list(failure.parent.glob(".failure-*")), [])
+
+
+class Command(unittest.TestCase):
+    @unittest.skipUnless(matplotlib_there(), "matplotlib isn't there")
+    def test_the_fewest_are_judged_and_drawn(self) -> None:
+        path = write("ops.jsonl", "\n".join(map(json.dumps, LOST)))
+        picture = folder() / "x.svg"
+        done = run("look", path, write("f.net", NET + FAULTS), "--model", "set", "-o", picture)
+        self.assertEqual((done.returncode, done.stdout.count(f"\n{path}:")), (1, 2), done.stderr)
+        self.assertIn("at 1s cut a from b 2s", picture.read_text())
+
+    def test_what_has_an_order_has_no_picture(self) -> None:
+        path = write("ops.jsonl", json.dumps(LOST[2]))
+        picture = folder() / "none.svg"
+        done = run("look", path, "--model", "set", "-o", picture)
+        self.assertEqual((done.returncode, picture.exists()), (0, False))
+        self.assertIn("nothing to draw", done.stderr)
+
+    def test_what_is_refused(self) -> None:
+        path = write("ops.jsonl", json.dumps(LOST[2]))
+        for words, status, said in (
+            ((path, "--model", "set"), 2, "--model does nothing without -o"),
+            ((path, "--model", "set", "-o", "x.svg", "--csv"), 2, "--csv does nothing beside --model"),
+            ((path, "--model", "set", "-o", "x.html"), 2, "--model draws -o FILE.png"),
+            ((path, path, path, "--model", "set", "-o", "x.svg"), 2, "--model takes a file of operations, and"),
+            ((path, write("n.net", NET), "--model", "set", "-o", "x.svg"), 6, "it has no fault"),
+            ((path, write("s.net", NET + "at 1s..2s cut a 1s\n"), "--model", "set", "-o", "x.svg"), 6, "a seed draws its faults"),
+        ):
+            done = run("look", *words)
+            self.assertEqual((done.returncode, said in done.stderr), (status, True), done.stderr)

@@ -1,7 +1,5 @@
 """Tables and paragraphs on a machine without numpy: the same bytes as with it, and one line where a picture needs it."""
 
-from __future__ import annotations
-
 import os
 import random
 import shutil
@@ -12,7 +10,7 @@ import unittest
 import numpy as np
 
 from hinge import plain
-from kit import MIXED, TOP, folder, mixed, run
+from kit import MIXED, TOP, folder, history_of, mixed, run
 
 START = TOP / "python" / "hinge" / "__main__.py"
 
@@ -37,15 +35,6 @@ class WithoutNumpy(unittest.TestCase):
         self.assertEqual(one.returncode, 0, one.stderr)
         return one.stdout
 
-    def history(self) -> object:
-        """Of a link that loses, whose queue gets full, and that is shared."""
-        config, packets, _ = mixed("shared")
-        path = folder() / "plain.history"
-        with open(folder() / "plain.report", "wb") as out:
-            program = [TOP / "dummynet", "replay", config, packets, "--history", path]
-            subprocess.run(program, stdout=out, check=True)
-        return path
-
     def test_tables_and_paragraphs(self) -> None:
         config, packets, report = mixed("dsl")
         for words in ((), ("--csv",), ("--json", "-"), ("--by", "flow", "--top", 3)):
@@ -53,13 +42,14 @@ class WithoutNumpy(unittest.TestCase):
         self.assertIn("waiting + ", self.same("why", 5000, config, packets, report))
 
     def test_a_history(self) -> None:
-        path = self.history()
+        """Of a link that loses, whose queue gets full, and that is shared."""
+        path = history_of("shared")
         self.assertIn("all", self.same("look", path))
         self.same("why", 1, 400, 5000, path)
         self.same("look", path, "--by", "target", "--csv")
 
     def test_one_that_cannot_be_loaded_is_as_none_and_is_told(self) -> None:
-        path = self.history()
+        path = history_of("shared")
         for line, why in (
             ("raise ImportError('no libblas\\nread on')", "no libblas read on"),
             ("import none", "No module named 'none'"),
@@ -73,8 +63,9 @@ class WithoutNumpy(unittest.TestCase):
     def test_a_net_has_its_ways_alone(self) -> None:
         place = folder() / "plain.session"
         place.mkdir()
-        shutil.copy(self.history(), place / "net.history")
-        done, ways = without_numpy("look", place), run("look", place / "net.history", "--by", "target")
+        shutil.copy(history_of("shared"), place / "net.history")
+        done = without_numpy("look", place)
+        ways = run("look", place / "net.history", "--by", "target")
         self.assertEqual((done.returncode, done.stdout), (7, ways.stdout))
         self.assertRegex(done.stderr, r"hinge look: the hosts, the paths .*: needs Python's numpy: .*numpy\n\Z")
 
@@ -89,7 +80,8 @@ class WithoutNumpy(unittest.TestCase):
             fields = lines[20].split(",")
             fields[place] = word
             path.write_text("\n".join([*lines[:20], ",".join(fields), *lines[21:]]) + "\n")
-            one, other = run("look", path, report), without_numpy("look", path, report)
+            one = run("look", path, report)
+            other = without_numpy("look", path, report)
             self.assertEqual((4, one.stdout, one.stderr), (other.returncode, other.stdout, other.stderr), word)
 
     def test_a_picture_needs_it(self) -> None:

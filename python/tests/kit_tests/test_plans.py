@@ -1,7 +1,5 @@
 """The meaning of a net's file in its second reading, and transcripts that match and don't match it."""
 
-from __future__ import annotations
-
 import json
 from itertools import islice
 
@@ -14,7 +12,6 @@ from hinge.plans.meaning import Meaning, ns_of
 from hinge.plans.sessions import judged, judged_run
 from hinge.command import Fault
 from hinge.run.words import SCALE, duration
-from hingetulip_words.advice import ACT
 
 NET = """\
 host a exec a
@@ -75,17 +72,16 @@ class OfTranscripts(WithFolder):
 
     def test_one_that_is_as_its_file_says(self) -> None:
         judge = self.judge(HONEST)
-        self.assertEqual((judge.faults, judge.remarks, judge.packets), ([], [], 3))
+        assert (judge.faults, judge.remarks, judge.packets) == ([], [], 3)
         self.assertRegex([*judge.lines_told()][-1], "^as .*net.net says: 7 lines, 4 acts, 3 packets$")
 
     def test_each_word_and_unit_is_read(self) -> None:
-        """Each event is of its host or its ways, and each unit of a time is the one that runs read. Advice names each event."""
-        self.assertEqual({*ACT.split("|")}, {*WORDS})
+        """Each event is of its host or its ways, and each unit of a time is the one that runs read."""
         for name in WORDS:
             (self.folder / "net.net").write_text(f"{NET}at 1.5s {name} a\n")
             *_, event = Meaning(str(self.folder / "net.net"), 0).read().events
-            self.assertEqual((event.moment, bool(event.host)), (3 * S // 2, name in ACTS_OF_HOSTS), name)
-        self.assertEqual([ns_of(f"1.5{unit}") for unit in SCALE], [duration(f"1.5{unit}") for unit in SCALE])
+            assert (event.moment, bool(event.host)) == (3 * S // 2, name in ACTS_OF_HOSTS), name
+        assert [ns_of(f"1.5{unit}") for unit in SCALE] == [duration(f"1.5{unit}") for unit in SCALE]
 
     def test_what_isnt_done(self) -> None:
         late = HONEST.replace(at(4 * S + 10000, "#,act,kill"), at(4 * S + S // 20, "#,act,kill"))
@@ -116,7 +112,7 @@ class OfTranscripts(WithFolder):
                 "line 10: `at 3s stop c 1s` doesn't hold",
             ),
         ):
-            self.assertIn(wanted, self.broken(history))
+            assert wanted in self.broken(history)
 
     def test_acts_of_one_moment_and_behind_the_end(self) -> None:
         """As in a real-time run: a fault's end and another fault's beginning follow the order of their lines, and stopped processes
@@ -136,8 +132,9 @@ at 1300ms stop a 5s
 """
         told = "300 stop 350 stop 600 cont 700 stop 800 cont 800 stop 900 cont 1050 stop 1100 stop 1200 cont 1300 stop".split()
         acts = [at(int(ms) * S // 1000 + 100, f"#,late-act,37000\n#,act,{word} a\n") for ms, word in zip(told[::2], told[1::2])]
-        begun, end = ENDS + lines(*FIRST[:2]), at(2 * S, "#,ending\n#,late-act,24450\n#,act,cont a\n")
-        self.assertEqual(self.broken(begun + "".join(acts) + end, net), "")
+        begun = ENDS + lines(*FIRST[:2])
+        end = at(2 * S, "#,ending\n#,late-act,24450\n#,act,cont a\n")
+        assert self.broken(begun + "".join(acts) + end, net) == ""
         for history, wanted in (
             ([*acts[:5], *acts[6:], end], "line 8: `at 800ms stop a 100ms`: `stop a` came 250.037 ms late"),
             ([*acts[:4], *acts[5:], end], "`stop a` came before `cont a` of line 7: `at 700ms stop a 100ms`"),
@@ -146,7 +143,7 @@ at 1300ms stop a 5s
             ([*acts, at(2 * S, "#,ending\n#,act,kill a\n")], "`kill a` at 2.000000 s isn't the file's"),
             ([*acts[:-1], end], "line 11: `at 1300ms stop a 5s`: `stop a` at 1.300000 s wasn't done"),
         ):
-            self.assertIn(wanted, self.broken(begun + "".join(history) + at(4 * S), net))
+            assert wanted in self.broken(begun + "".join(history) + at(4 * S), net)
 
     def test_an_act_may_come_before_another_hosts_restart_of_its_moment(self) -> None:
         """A restart takes longer than a stop, which the links carry out; an act of a later moment comes behind both."""
@@ -155,9 +152,9 @@ at 1300ms stop a 5s
         stop, restart, cont = (
             at(S + 100 + late, f"#,act,{word}\n") for late, word in ((5000, "stop b"), (9000, "restart a"), (1001000, "cont b"))
         )
-        self.assertEqual(self.broken(begun + stop + restart + cont + at(3 * S), net), "")
+        assert self.broken(begun + stop + restart + cont + at(3 * S), net) == ""
         late = at(S + 2000000, "#,act,restart a\n")
-        self.assertIn("`cont b` came before `restart a` of line 6", self.broken(begun + stop + cont + late + at(3 * S), net))
+        assert "`cont b` came before `restart a` of line 6" in self.broken(begun + stop + cont + late + at(3 * S), net)
 
     def test_each_flipped_bit_is_the_seeds(self) -> None:
         """At 100 % each packet that leaves has one, and none without the word."""
@@ -165,47 +162,45 @@ at 1300ms stop a 5s
         draws = Draws(7, 0, "corrupt 100%".split(), "", None)
         sent = f"c,0,submit,pipe,1,10.8.0.1,10.8.0.2,17,1,2,36,{word(7, 0, 1)},50\nr,queued,50,0,0\n"
         left = sent + "c,0,collect,5000050\nd,0,0,50,5000050\nr,collected,5000050,1\n"
-        bit, begun = draws.bit(draws.flipped(), 128), ENDS + "#,seed,7\n" + lines(*FIRST[:2])
+        bit = draws.bit(draws.flipped(), 128)
+        begun = ENDS + "#,seed,7\n" + lines(*FIRST[:2])
         for history, wanted in (
             (f"{left}#,corrupt,0,{bit},128,0\n", ""),
             (left, "packet 0 left whole: the seed flips one of its bits"),
             (f"{left}#,corrupt,0,{bit ^ 1},128,0\n", f"bit {bit ^ 1} of packet 0 was flipped: the seed draws {bit} of 128"),
             (f"{left}#,corrupt,1,{bit},128,0\n", "a bit of packet 1 was flipped, for which no line asks"),
         ):
-            self.assertEqual(self.broken(begun + history, net), wanted)
-        self.assertIn(
-            "for which no line asks", self.broken(f"{begun}{left}#,corrupt,0,{bit},128,0\n", net.replace(" corrupt 100%", ""))
-        )
+            assert self.broken(begun + history, net) == wanted
+        assert "for which no line asks" in self.broken(f"{begun}{left}#,corrupt,0,{bit},128,0\n", net.replace(" corrupt 100%", ""))
 
     def test_a_killed_host_sends_nothing(self) -> None:
         """But for what `hinge exec` began there, as transcripts of format 3 tell; and its kernel ends connections."""
         sent = at(4 * S + 100_000_000, packet(4 * S + 100_000_000, "pipe,1"))
         history = HONEST.replace("format,2", "format,3").replace("#,act,kill a\n", "#,act,kill a\n" + sent)
-        self.assertIn("line 11: `at 4s kill a 500ms` doesn't hold: at 4.100000 s a sends to 10.8.0.2", self.broken(history))
+        assert "line 11: `at 4s kill a 500ms` doesn't hold: at 4.100000 s a sends to 10.8.0.2" in self.broken(history)
         for honest in (
             history.replace("#,act,kill a\n", "#,act,kill a\n#,exec,a\n"),
             history.replace("format,3", "format,2"),
             history.replace(sent, sent.replace(",17,", ",6,")),
             history.replace(sent, sent.replace("4100000000", "4020000000")),
         ):
-            self.assertEqual(self.broken(honest), "", honest)
+            assert self.broken(honest) == "", honest
 
     def test_a_change_that_the_links_refuse(self) -> None:
         line = lines("queue delete 2").replace("r,configured", "r,no-such-queue")
         history = HONEST + "#,change,a b queue 2 delete\n" + line + at(7 * S)
         judge = self.judge(history)
-        self.assertEqual((judge.faults, len(judge.remarks)), ([], 2))
-        self.assertIn(
-            "`a b queue 2 delete` by the control socket at 6.000000 s: the links refused `queue delete 2`: no", judge.remarks[1]
+        assert (judge.faults, len(judge.remarks)) == ([], 2)
+        assert (
+            "`a b queue 2 delete` by the control socket at 6.000000 s: the links refused `queue delete 2`: no" in judge.remarks[1]
         )
-        self.assertIn("the links refused `queue delete 2`: no-such-queue", self.broken(HONEST + line))
+        assert "the links refused `queue delete 2`: no-such-queue" in self.broken(HONEST + line)
 
     def test_a_loss_that_a_queue_goes_past(self) -> None:
-        net, history = NET.replace("b 5ms", "b 5ms loss 50%"), HONEST.replace("delay 5", "delay 5 plr 0.5").replace(
-            "plr 0.5 plr", "plr"
-        )
+        net = NET.replace("b 5ms", "b 5ms loss 50%")
+        history = HONEST.replace("delay 5", "delay 5 plr 0.5").replace("plr 0.5 plr", "plr")
         self.assertRegex(self.broken(history, net), "line 4: `link a b 5ms loss 50%`: its loss isn't that of packets which")
-        self.assertEqual(self.broken(history, net.replace("weight 3", "weight 3 plr 0")), "")
+        assert self.broken(history, net.replace("weight 3", "weight 3 plr 0")) == ""
 
     def test_a_cut_of_one_way(self) -> None:
         for words, wanted in (
@@ -218,7 +213,7 @@ at 1300ms stop a 5s
         ):
             one_way = HONEST.replace("pipe 2 config delay 5 plr 1", "pipe 2 config delay 5")
             net, history = (text.replace("cut a from b 2s", words) for text in (NET, one_way))
-            self.assertEqual(self.broken(history, net)[: len(wanted) or 999], wanted)
+            assert self.broken(history, net)[: len(wanted) or 999] == wanted
 
     def test_a_cut_of_a_port(self) -> None:
         """The port's packets get the word for a loss, and other packets keep their words; the pipe has the least loss for that."""
@@ -236,7 +231,7 @@ at 1300ms stop a 5s
         behind = at(S * 5 // 2 + 100, lines(least)) + sent(2600, words[4], "9,53", protocol=6) + sent(2700, 0, "9,53", "lost")
         end = at(3 * S + 100, lines(FIRST[0])) + sent(3500, words[6], "53,9") + at(4 * S)
         honest = begun + in_cut + whole + behind + end
-        self.assertEqual(self.broken(honest, net), "")
+        assert self.broken(honest, net) == ""
         for old, new, wanted in (
             (f"c,0,configure,{least}\nr,configured\n", "", "line 4: `at 1s cut a from b up udp port 53 2s` wasn't done"),
             (sent(1200, 0, "53,9", "lost"), sent(1200, 0, "53,9"), "udp port 53 2s` didn't lose all packets"),
@@ -245,7 +240,7 @@ at 1300ms stop a 5s
             (sent(2200, words[3], "53,9", "lost"), sent(2200, 0, "53,9", "lost"), "has the random word 0: the seed draws"),
             (sent(3500, words[6], "53,9"), sent(3500, 0, "53,9"), "has the random word 0: the seed draws"),
         ):
-            self.assertIn(wanted, self.broken(honest.replace(old, new), net), (old, new))
+            assert wanted in self.broken(honest.replace(old, new), net), (old, new)
 
     def test_a_hold_holds_what_a_queue_sends(self) -> None:
         """An outage slowed such packets down in older versions, and they left before its end."""
@@ -255,7 +250,7 @@ at 1300ms stop a 5s
             broken = self.broken(BEGUN + at(S + 100) + sent.format(left), net)
             self.assertEqual(broken[: len(wanted)], wanted) if wanted else self.assertNotIn("didn't hold", broken)
         cut = at(S + 100, lines("pipe 2 config delay 5 plr 1")) + at(S + 300, lines(FIRST[1]))
-        self.assertIn("isn't what the file has for b > a", self.broken(BEGUN + cut, net.replace("a b up outage", "b a up outage")))
+        assert "isn't what the file has for b > a" in self.broken(BEGUN + cut, net.replace("a b up outage", "b a up outage"))
 
     def test_an_older_transcript_without_the_main_commands_beginning(self) -> None:
         older = HONEST.replace("#,format,2\n", "").replace("#,main,100\n", "")
@@ -267,20 +262,20 @@ at 1300ms stop a 5s
         ended = at(4 * S + 11000 + S // 10, lines(*now))
         begun = HONEST.replace("#,act,kill a\n", "#,act,kill a\n" + asked + ended)
         judge = self.judge(begun)
-        self.assertEqual((judge.faults, judge.remarks), ([], ["at 4.000010 s by the control socket: cut b from c 100ms"]))
-        self.assertIn("isn't what the file has", self.broken(begun.replace("#,change,cut b from c 100ms\n", "")))
+        assert (judge.faults, judge.remarks) == ([], ["at 4.000010 s by the control socket: cut b from c 100ms"])
+        assert "isn't what the file has" in self.broken(begun.replace("#,change,cut b from c 100ms\n", ""))
         for extra in ("cut b from c 1s", "kill c"):
             unasked = HONEST + at(6 * S, f"#,act,{extra}\n")
-            self.assertIn(f"`{extra}` at 6.000000 s isn't the file's", self.broken(unasked))
-            self.assertEqual(self.broken(unasked.replace("#,format,2\n", "")), "")
-        self.assertIn("`cut b from c 100ms` by the control socket wasn't done", self.broken(begun.replace(ended, "")))
+            assert f"`{extra}` at 6.000000 s isn't the file's" in self.broken(unasked)
+            assert self.broken(unasked.replace("#,format,2\n", "")) == ""
+        assert "`cut b from c 100ms` by the control socket wasn't done" in self.broken(begun.replace(ended, ""))
 
     def test_draws_of_a_seed(self) -> None:
         net = NET.replace("at 2s c", "at 1s..3s c") + "nemesis stop-one every 10s for 1s until 15s of c\n"
         drawn = HONEST.replace("#,main", "#,drawn,at 2s c b 7ms / 9ms\n#,drawn,at 10s stop c 1s\n#,main")
-        self.assertEqual(self.broken(drawn, net), "")
+        assert self.broken(drawn, net) == ""
         late = net.replace("every 10s for 1s", "every 4s for 1s from 10s")
-        self.assertEqual(self.broken(drawn, late), "")
+        assert self.broken(drawn, late) == ""
         self.assertRaisesRegex(Fault, "no line of the file asks for", self.judge, drawn, late.replace("from 10s", "from 9s"))
         for wrong, wanted in (
             ("at 4s c", "the seed's line is another one"),
@@ -358,9 +353,9 @@ class OfTheWordsOfRuns(WithFolder):
             ("pipe,65533", "pipe,65534", "packet 3 of client > server is late by 2 ms: 1 ms were drawn or chosen"),
             (of_run(1, S + 9, 448668961, "lost"), of_run(1, S + 9, 448668961, number=9), "didn't lose all packets"),
         ):
-            self.assertIn(old, RAN)
+            assert old in RAN
             found = self.broken(RAN.replace(old, new) if old else RAN)
-            self.assertEqual(wanted in found and bool(wanted) == bool(found), True, found)
+            assert wanted in found and bool(wanted) == bool(found), found
 
     def test_chosen_packets_and_the_control_socket(self) -> None:
         asked = "#,asked,--faults,1,client > server packet 1 twice\n#,asked,--faults,2,client > server packet 2 late 30ms\n"
@@ -378,5 +373,5 @@ class OfTheWordsOfRuns(WithFolder):
             ("config delay 9 plr", "config delay 8 plr", "`pipe 1 config delay 8 plr 0.5` isn't what"),
         ):
             found = self.broken(history.replace(old, new) if old else history)
-            self.assertIn(wanted, found)
-            self.assertEqual(bool(wanted), bool(found), found)
+            assert wanted in found
+            assert bool(wanted) == bool(found), found

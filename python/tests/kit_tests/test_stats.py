@@ -1,20 +1,16 @@
 """The table of flows against figures made by hand and from the report."""
 
-from __future__ import annotations
-
 import csv
 import io
-import subprocess
 import unittest
 from typing import Optional, Union
 
 import numpy as np
-from kit import folder, mixed, needs_tshark, replay, rows_of, run, write
+from kit import mixed, needs_tshark, recorded, replay, rows_of, run, write
 
 from hinge.captures.packet_rows import HEADER
 from hinge.lazy import Integers
 from hinge.pictures.figures import exact_sum, jitter, jitter_after, mean, percentiles
-from hinge.program import dummynet
 from hinge.replays.units import packets, rows
 
 
@@ -41,15 +37,11 @@ class Words(unittest.TestCase):
 
 class ByHand(unittest.TestCase):
     def test_four_packets(self) -> None:
-        packets = write(
-            "hand.csv",
-            HEADER
-            + "\n"
-            + "".join(
-                f"{moment},pipe,{pipe},10.0.0.1,10.0.0.2,17,1,2,1000,0\n"
-                for moment, pipe in ((0, 1), (0, 1), (0, 1), (1_000_000, 1), (2_000_000, 9))
-            ),
+        rows = "".join(
+            f"{moment},pipe,{pipe},10.0.0.1,10.0.0.2,17,1,2,1000,0\n"
+            for moment, pipe in ((0, 1), (0, 1), (0, 1), (1_000_000, 1), (2_000_000, 9))
         )
+        packets = write("hand.csv", f"{HEADER}\n{rows}")
         report = write(
             "hand.report",
             "event,row,flow,packet,at,start,due\nout,1,0,0,0,0,1000000\nout,2,0,1,0,1000000,2000000\n"
@@ -81,8 +73,8 @@ class ByHand(unittest.TestCase):
             "lost.csv", HEADER + "\n" + "".join(f"{moment},pipe,7,10.0.0.1,10.0.0.2,17,1,2,1000,0\n" for moment in (0, 1000))
         )
         spelled = write("lost1.config", "pipe 1 config bw 8Mbit/s\n")
-        report, history = replay("lost", spelled, packets), folder() / "lost.history"
-        subprocess.run([dummynet(), "replay", spelled, packets, "--history", history], stdout=subprocess.DEVNULL, check=True)
+        report = replay("lost", spelled, packets)
+        history = recorded("lost", spelled, packets)
         for words in (("look", packets, report), ("look", packets, report, "-o", "lost.png"), ("look", history)):
             done = run(*words)
             told = (

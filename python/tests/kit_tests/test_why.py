@@ -1,8 +1,6 @@
 """The explanations from `why`, for all rows in three scenarios: the figures add up to the report's, and queues equal the
 reference's."""
 
-from __future__ import annotations
-
 import re
 import unittest
 from collections import Counter
@@ -11,12 +9,11 @@ from functools import lru_cache
 from pathlib import Path
 from random import Random
 
-from kit import folder, mixed, needs_tshark, parts_of, replay, run, rows_of, write
+from kit import folder, live, mixed, needs_tshark, parts_of, replay, rows_of, run, write
 
 from hinge.captures.packet_rows import HEADER
 from hinge.replays.explain import Explainer
 from hinge.replays.links import Parts
-from looked import live
 from oracle import STYLES, FastDummynet, call_text, configured, random_calls, reply_lines
 from hinge.captures.random_words import word
 from hinge.replays.history import read_history
@@ -24,9 +21,7 @@ from hinge.replays.replay import EVENT_NAMES
 from model import Collect, FiveTuple, Full, Packet, Submit, Target
 
 DURATION = r"([\d,]+\.\d{6}) ms"
-SUM = re.compile(
-    rf"(?:In all it took|would take) {DURATION} = {DURATION} waiting \+ {DURATION} transmission \+ " rf"{DURATION} delay"
-)
+SUM = re.compile(rf"(?:In all it took|would take) {DURATION} = {DURATION} waiting \+ {DURATION} transmission \+ {DURATION} delay")
 WAIT = re.compile(rf"It waited {DURATION} for .*?: (.*?)\. Its transmission")
 SENT = re.compile(r"was sent to \S+ \d+ at ([\d,]+\.\d{9}) s")
 LEFT = re.compile(r"(?:it left|It would leave) at ([\d,]+\.\d{9}) s")
@@ -40,8 +35,7 @@ def ns(text: str) -> int:
 
 @lru_cache(maxsize=None)
 def late() -> tuple[Path, Path, Path]:
-    """A slow link: moments that go back, packets that are held beyond the last moment, on a link of their own and a
-    shared one."""
+    """A slow link: moments that go back, packets that are held beyond the last moment, on a link of their own and a shared one."""
     config = write(
         "late.config",
         "pipe 1 config bw 1000bit/s delay 7 queue 3Kbytes plr 0.1 mask src-ip 0xff\n"
@@ -147,10 +141,9 @@ class Changed(unittest.TestCase):
     """Histories in which links are changed and deleted between packets."""
 
     def test_random_histories_against_the_reference(self) -> None:
-        """For 60 random histories, the explanation of each packet agrees with the reference emulator. The parts of a delay add
-        up, a packet dropped at a full queue has the same packets ahead, and held packets leave or are discarded in the same
-        way as in a reference that continues.
-        """
+        """For 60 random histories, the explanation of each packet agrees with the reference emulator. The parts of a delay add up,
+        a packet dropped at a full queue has the same packets ahead, and held packets leave or are discarded in the same way as in a
+        reference that continues."""
         kinds: Counter[str] = Counter()
         for seed in range(60):
             rng = Random(seed)
@@ -177,7 +170,8 @@ class Changed(unittest.TestCase):
     def judge(self, explainer: Explainer, queues: list[list[int]], later: dict, kinds: Counter, seed: int) -> None:
         replay = explainer.replay
         for place in range(len(replay.packets)):
-            text, event = explainer.paragraph(place + 1), EVENT_NAMES[replay.event[place]]
+            text = explainer.paragraph(place + 1)
+            event = EVENT_NAMES[replay.event[place]]
             with self.subTest(seed=seed, row=place + 1, text=text):
                 kinds[event] += 1
                 if event == "out":
@@ -199,21 +193,18 @@ class Changed(unittest.TestCase):
                         assert ns(SUM.search(text)[2]) == one.start - int(replay.at[place])
                 kinds["cut"] += "It was lost in a cut" in text
 
-    def told(self, lines: list[str]) -> list[str]:
-        return run(
-            "why", *range(1, sum(",submit," in line for line in lines) + 1), write("told.history", live(lines))
-        ).stdout.split("\n\n")
+    def told(self, *lines: str) -> list[str]:
+        rows = range(1, sum(",submit," in line for line in lines) + 1)
+        return run("why", *rows, write("told.history", live([*lines]))).stdout.split("\n\n")
 
     def test_a_link_that_is_changed_by_hand(self) -> None:
         """Two packets of 1,000 bytes at 0: the first takes 1 ms and 10 ms. Then the link has 4 Mbit/s and 2 ms, so the
         second starts at 1 ms, takes 2 ms and would be there at 5 ms, but stays behind the first until 11 ms."""
         submit = "c,0,submit,pipe,1,10.0.0.1,10.0.0.2,17,1,2,1000,0,{}"
         one, two, three, four = self.told(
-            [
-                *("pipe 1 config bw 8Mbit/s delay 10", submit.format(0), submit.format(0), "pipe 1 config bw 4Mbit/s delay 2"),
-                *("c,0,collect,50000000", "pipe 1 config bw 4Mbit/s delay 2 plr 1", submit.format(60_000_000)),
-                *("c,0,advance,70000000", "pipe 1 config bw 4Mbit/s delay 2", submit.format(80_000_000), "c,0,collect,90000000"),
-            ]
+            *("pipe 1 config bw 8Mbit/s delay 10", submit.format(0), submit.format(0), "pipe 1 config bw 4Mbit/s delay 2"),
+            *("c,0,collect,50000000", "pipe 1 config bw 4Mbit/s delay 2 plr 1", submit.format(60_000_000)),
+            *("c,0,advance,70000000", "pipe 1 config bw 4Mbit/s delay 2", submit.format(80_000_000), "c,0,collect,90000000"),
         )
         assert "(1,000 bytes at 8,000,000 bit/s, in force until 0.000000000 s). The" in one
         assert "11.000000 ms = 0.000000 ms waiting + 1.000000 ms transmission + 10.000000 ms delay, and" in one
@@ -226,14 +217,12 @@ class Changed(unittest.TestCase):
     def test_an_outage_that_holds_packets(self) -> None:
         """As a host makes one: nobody's 1,500 bytes at 12,000 bit/s take a second."""
         texts = self.told(
-            [
-                "pipe 1 config bw 8Mbit/s",
-                "pipe 1 config bw 12000bit/s",
-                f"c,0,submit,pipe,1,0.0.0.0,0.0.0.0,255,0,0,1500,{2**31 - 1},1000000000",
-                "pipe 1 config bw 8Mbit/s",
-                *(f"c,0,submit,pipe,1,10.0.0.1,10.0.0.2,17,1,2,1000,0,{moment}00000000" for moment in (12, 15)),
-                "c,0,collect,3000000000",
-            ]
+            "pipe 1 config bw 8Mbit/s",
+            "pipe 1 config bw 12000bit/s",
+            f"c,0,submit,pipe,1,0.0.0.0,0.0.0.0,255,0,0,1500,{2**31 - 1},1000000000",
+            "pipe 1 config bw 8Mbit/s",
+            *(f"c,0,submit,pipe,1,10.0.0.1,10.0.0.2,17,1,2,1000,0,{moment}00000000" for moment in (12, 15)),
+            "c,0,collect,3000000000",
         )
         outage = "an outage, in which pipe 1 held packets from 1.000000000 s to 2.000000000 s"
         assert texts[0] == f"Row 1 is a packet that nobody sent. It stands for {outage}."
@@ -244,14 +233,12 @@ class Changed(unittest.TestCase):
     def test_a_run_over_a_trace(self) -> None:
         """4 bytes of 1,500 may leave at each moment in a trace; each packet gets a separate rate."""
         texts = self.told(
-            [
-                *("pipe 1 config", "pipe 1 config bw 89949bit/s"),
-                "c,0,submit,pipe,1,10.0.0.1,10.0.0.2,1,0,0,84,1,529152",
-                "c,0,collect,8000104",
-                "pipe 1 config bw 282098bit/s",
-                "c,0,submit,pipe,1,10.0.0.1,10.0.0.2,1,0,0,84,1,501617855",
-                "c,0,collect,600000000",
-            ]
+            *("pipe 1 config", "pipe 1 config bw 89949bit/s"),
+            "c,0,submit,pipe,1,10.0.0.1,10.0.0.2,1,0,0,84,1,529152",
+            "c,0,collect,8000104",
+            "pipe 1 config bw 282098bit/s",
+            "c,0,submit,pipe,1,10.0.0.1,10.0.0.2,1,0,0,84,1,501617855",
+            "c,0,collect,600000000",
         )
         assert (
             "84 bytes at 89,949 bit/s, rounded up to whole ns, in force from 0.000000000 s to 0.008000104 s for this packet alone"
@@ -287,6 +274,17 @@ class Command(unittest.TestCase):
         ) in texts[2]
         assert f"until row {2}, which" in texts[3]
 
+    def test_of_many_flows_the_smaller_are_summed_up(self) -> None:
+        """A packet behind another one, behind 19 flows with 500 bytes each at 8 Mbit/s, and behind 40 flows with 1,000."""
+        config = write("many.config", "pipe 1 config bw 8Mbit/s\nqueue 1 config pipe 1 mask all\n")
+        lengths = [1000, *[500] * 19, *[1000] * 40, 1500]
+        lines = [f"0,queue,1,10.0.0.{row},10.0.1.0,17,1,2,{length},9" for row, length in enumerate(lengths, 1)]
+        packets = write("many.csv", "\n".join([HEADER, *lines]) + "\n")
+        text = run("why", 61, config, packets, replay("many", config, packets)).stdout
+        told = [f"1.000000 ms for 1 packet of flow {row - 1} (queue 1, weight 1): row {row}" for row in range(21, 61)]
+        assert "; ".join([*told, "9.500000 ms for 19 packets of 19 others. Its transmission"]) in text
+        assert "It waited 50.500000 ms for pipe 1, which its queues share: 1.000000 ms until row 1 of" in text
+
     def test_another_configuration_is_noticed(self) -> None:
         config, packets, report = late()
         other = write("other.config", config.read_text().replace("delay 7", "delay 8"))
@@ -315,9 +313,8 @@ class Command(unittest.TestCase):
 
     def test_faults_are_one_line(self) -> None:
         config, packets, report = late()
-        bad_config, bad_row = write("bad.config", "pipe 1 confg\n"), write(
-            "bad.csv", f"{HEADER}\n\n1,pipe,1,10.0.0.1,10.0.0.2,17,1,2,x,0\n"
-        )
+        bad_config = write("bad.config", "pipe 1 confg\n")
+        bad_row = write("bad.csv", f"{HEADER}\n\n1,pipe,1,10.0.0.1,10.0.0.2,17,1,2,x,0\n")
         short = write("short.report", "\n".join(report.read_text().splitlines()[:-1]) + "\n")
         absent = 9999
         (folder() / "bytes.csv").write_bytes(f"{HEADER}\n1,pipe,1,10.0.0.1,10.0.0.2,17,1,\n".encode() + b"\xff\n")

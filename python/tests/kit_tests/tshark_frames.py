@@ -1,8 +1,6 @@
 """tshark's view of a capture: the IP packet of each frame, from the fields that tshark finds in it. The reader of the
 kit is tried against tshark."""
 
-from __future__ import annotations
-
 import subprocess
 from typing import Iterator, Optional
 
@@ -31,10 +29,8 @@ HEADER_BYTES = {
 }
 DSCP = {"ip": "ip.dsfield.dscp", "ipv6": "ipv6.tclass.dscp"}
 FIELDS = (
-    "frame.time_epoch frame.len frame.protocols "
-    "ip.src ip.dst ip.len ip.hdr_len ip.dsfield.dscp ip.proto ip.frag_offset "
-    "ipv6.src ipv6.dst ipv6.tclass.dscp ipv6.plen ipv6.nxt ipv6.hopopts.nxt ipv6.routing.nxt ipv6.fraghdr.nxt "
-    "ipv6.dstopts.nxt "
+    "frame.time_epoch frame.len frame.protocols ip.src ip.dst ip.len ip.hdr_len ip.dsfield.dscp ip.proto ip.frag_offset "
+    "ipv6.src ipv6.dst ipv6.tclass.dscp ipv6.plen ipv6.nxt ipv6.hopopts.nxt ipv6.routing.nxt ipv6.fraghdr.nxt ipv6.dstopts.nxt "
     "ipv6.fraghdr.offset tcp.hdr_len tcp.srcport tcp.dstport udp.srcport udp.dstport sctp.srcport sctp.dstport "
     "dccp.srcport dccp.dstport"
 ).split()
@@ -80,9 +76,12 @@ def frame_by_fields(number: int, value: dict[str, str]) -> Optional[Packet]:
         return None
     if ip == "ip":
         proto, own = int(value["ip.proto"]), int(value["ip.hdr_len"])
-        length, fragment = int(value["ip.len"]), value["ip.frag_offset"]
+        length = int(value["ip.len"])
+        fragment = value["ip.frag_offset"]
     else:
-        proto, own, fragment = final_header(value), 40, value["ipv6.fraghdr.offset"]
+        proto = final_header(value)
+        own = 40
+        fragment = value["ipv6.fraghdr.offset"]
         length = int(value["ipv6.plen"]) and int(value["ipv6.plen"]) + own
     if length == 0:  # a packet of more than 65,535 bytes, or one that the card was still to cut
         before = link_bytes(protocols, ip)
@@ -98,7 +97,7 @@ def frame_by_fields(number: int, value: dict[str, str]) -> Optional[Packet]:
 def frames_by_kit(capture: str) -> Iterator[tuple[int, Optional[Packet]]]:
     """The same by the program of the kit."""
     with open("/dev/null", "wb") as nowhere, read_capture(
-        Input.as_it_is(capture), RowPlan(), nowhere.fileno(), by_frame=True
+        Input(capture, capture), RowPlan(), nowhere.fileno(), by_frame=True
     ) as reader:
         packets = {packet.frame.number: packet for packet in reader.packets()}
         yield from ((number, packets.get(number)) for number in range(1, reader.frame_count + 1))

@@ -1,7 +1,5 @@
 """A running `hinge udp`, and datagrams that pass through it in both directions."""
 
-from __future__ import annotations
-
 import contextlib
 import re
 import resource
@@ -25,15 +23,8 @@ class Path:
     def __init__(self, *words: object, files: Optional[int] = None) -> None:
         """With `files`, the process may open at most that many descriptors."""
         limit = (lambda: resource.setrlimit(resource.RLIMIT_NOFILE, (files, files))) if files else None
-        self.process = subprocess.Popen(
-            [*HINGE, "udp", *map(str, words)],
-            text=True,
-            stdin=subprocess.DEVNULL,
-            stdout=subprocess.PIPE,
-            stderr=subprocess.PIPE,
-            preexec_fn=limit,
-        )
-        assert self.process.stdout
+        streams = {"stdin": subprocess.DEVNULL, "stdout": subprocess.PIPE, "stderr": subprocess.PIPE}
+        self.process = subprocess.Popen([*HINGE, "udp", *map(str, words)], text=True, preexec_fn=limit, **streams)
         self.port = int(self.process.stdout.readline().rpartition(":")[2] or 0)
 
     def ended(self) -> tuple[int, str]:
@@ -64,7 +55,8 @@ def rounds(client: socket.socket, server: socket.socket, path: Path, count: int)
     """Returns the seconds of consecutive round trips through the path, with 0 for a round that brought another datagram."""
     took = []
     for number in range(count):
-        sent, begun = number.to_bytes(4, "big") + bytes(SIZE - 4), time.monotonic()
+        sent = number.to_bytes(4, "big") + bytes(SIZE - 4)
+        begun = time.monotonic()
         client.sendto(sent, (LOOPBACK[client.family], path.port))
         came, source = server.recvfrom(65536)
         server.sendto(came, source)

@@ -1,13 +1,14 @@
-"""A run of `hinge net`, and the files in its folder."""
-
-from __future__ import annotations
+"""Runs of `hinge net` and commands behind `hinge run`, with the files in their folder."""
 
 import json
+import subprocess
 import sys
 from typing import Any
 
-from linked import Done, audited_as_lawful, hinge
+from linked import Done, audited_as_lawful, hinge, run
 from with_folder import WithFolder
+
+CERTIFICATE = ["openssl", "req", "-x509", "-newkey", "rsa:2048", "-nodes", "-subj", "/CN=server", "-days", "2"]
 
 
 class InAFolder(WithFolder):
@@ -44,3 +45,15 @@ class InAFolder(WithFolder):
     def packets(self) -> dict[str, int]:
         """Returns the number of packets by way, for ways with packets."""
         return {f"{way['from']} > {way['to']}": way["came"] for way in self.summary()["ways"] if way["came"]}
+
+
+class Behind(WithFolder):
+    def summary(self, *words: str, seconds: float = 60) -> tuple[Done[str], dict[str, Any]]:
+        """Runs a command; returns its summary, too."""
+        done = run("--json", self.folder / "json", *words, seconds=seconds)
+        return done, json.loads((self.folder / "json").read_text())
+
+    def certificate(self) -> tuple[str, str]:
+        key, certificate = f"{self.folder}/key", f"{self.folder}/certificate"
+        subprocess.run([*CERTIFICATE, "-keyout", key, "-out", certificate], check=True, capture_output=True)
+        return key, certificate

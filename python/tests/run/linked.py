@@ -1,7 +1,5 @@
 """The host between two sockets, which needs no privilege, packets, and `hinge` itself, for all tests of this folder."""
 
-from __future__ import annotations
-
 import os
 import re
 import shutil
@@ -16,12 +14,13 @@ import unittest
 from contextlib import contextmanager
 from functools import lru_cache
 from pathlib import Path
-from typing import Callable, Iterator, Optional, Sequence, Union
+from typing import Any, Callable, Iterator, Optional, Sequence, Union
 
 from hinge.program import dummynet
 from hinge.run.host import program
 from hinge.run.host_lines import HostLines
 from hinge.run.page import STARTING, Counts, Page
+from hinge.run.plan import Plan
 from hinge.run.summary import VOID
 from hinge.run.system import Missing
 
@@ -30,8 +29,7 @@ SEEDS = "seed 0 1\nseed 1 1\n"
 AT_ONCE = 64  # packets that the host takes of a way before it looks round
 Done = subprocess.CompletedProcess
 Word = Union[str, Path]
-
-
+CLIENT, SERVER = "10.8.0.1", "10.8.0.2"
 AS_IN_A_CONTAINER = [
     *"unshare -m sh -c".split(),
     "mount --bind /proc/sys /proc/sys && mount -o remount,bind,ro /proc/sys && "
@@ -51,16 +49,14 @@ def no_host() -> str:
 needs_host = unittest.skipIf(bool(no_host()), no_host())
 
 
+def outcome(words: Sequence[object], **how: Any) -> Done[str]:
+    """Runs a command, whose output is text."""
+    return subprocess.run([*map(str, words)], capture_output=True, text=True, **{"timeout": 60, **how})
+
+
 def hinge(command: str, *words: Word, seconds: float = 60, folder: Optional[Word] = None, **variables: str) -> Done[str]:
-    return subprocess.run(
-        [*HINGE, command, *map(str, words)],
-        capture_output=True,
-        text=True,
-        timeout=seconds,
-        stdin=subprocess.DEVNULL,
-        cwd=folder,
-        env={**os.environ, **variables},
-    )
+    how: dict[str, Any] = {"timeout": seconds, "stdin": subprocess.DEVNULL, "cwd": folder, "env": {**os.environ, **variables}}
+    return outcome([*HINGE, command, *words], **how)
 
 
 def run(*words: Word, seconds: float = 60) -> Done[str]:
@@ -105,6 +101,10 @@ def ip4(src: str, dst: str, proto: int, sport: int, dport: int, length: int, tos
     return (head + struct.pack("!HH", sport, dport)).ljust(length, b"\0")
 
 
+def udp(number: int, length: int = 40) -> bytes:
+    return ip4(CLIENT, SERVER, 17, 1, number, length)
+
+
 def ip6(src: str, dst: str, proto: int, body: bytes) -> bytes:
     ends = socket.inet_pton(socket.AF_INET6, src) + socket.inet_pton(socket.AF_INET6, dst)
     return struct.pack("!IHBB", 0x6 << 28, len(body), proto, 64) + ends + body
@@ -129,7 +129,6 @@ def web_server(folder: Word, address: str) -> Iterator[str]:
     """Returns the port of a server for this folder's files, outside all links."""
     words = [sys.executable, "-u", "-m", "http.server", "0", "--bind", address]
     with subprocess.Popen(words, cwd=folder, stdout=subprocess.PIPE, stderr=subprocess.DEVNULL, text=True) as server:
-        assert server.stdout
         try:
             yield found(r"port (\d+)", server.stdout.readline())[0]
         finally:
@@ -172,11 +171,21 @@ def stopped(process: int) -> Iterator[None]:
         os.kill(process, signal.SIGCONT)
 
 
+def plan_of(*lines: str) -> Plan:
+    plan = Plan()
+    for line in lines:
+        plan.link(line)
+    return plan
+
+
 class Ended:
     """A link's result: its status, counts, transcript, and output."""
 
     def __init__(self, status: int, counts: Counts, history: str, said: str) -> None:
-        self.status, self.counts, self.history, self.said = status, counts, history, said
+        self.status = status
+        self.counts = counts
+        self.history = history
+        self.said = said
 
 
 class Linked:
@@ -186,8 +195,7 @@ class Linked:
         self, plan: str, most: int = 10**9, carrier: Optional[str] = None, links: int = 1, descriptors: Sequence[int] = ()
     ) -> None:
         """With the carrier `tun` each packet follows a header. The plan names the additional descriptors, which the process
-        inherits.
-        """
+        inherits."""
         self.folder = tempfile.TemporaryDirectory()
         self.transcript = f"{self.folder.name}/session.history"
         pairs = [socket.socketpair(socket.AF_UNIX, socket.SOCK_SEQPACKET) for _ in range(2 * links)]
@@ -201,7 +209,6 @@ class Linked:
             stdin=subprocess.PIPE,
             stderr=subprocess.PIPE,
         )
-        assert self.process.stdin
         self.process.stdin.write(f"transcript {most} {self.transcript}\n{plan}".encode())
         self.process.stdin.close()
         for _, its in pairs:
@@ -216,7 +223,6 @@ class Linked:
     def ended(self) -> Ended:
         """Waits until the host ends by itself."""
         status = self.process.wait(60)
-        assert self.process.stderr
         with self.process.stderr as said, open(self.transcript) as history:
             return Ended(status, self.page.read(), history.read(), said.read().decode())
 

@@ -1,6 +1,6 @@
-"""Reads, plans and refuses files for `hinge net`."""
+"""Files from which a test makes a plan. Those for `hinge net` are read, planned and refused."""
 
-from __future__ import annotations
+import os
 
 import pytest
 
@@ -16,6 +16,12 @@ class OfFiles(WithFolder):
     def setUp(self) -> None:
         super().setUp()
         self.path = self.folder / "x.net"
+
+    def file(self, data: "str | bytes") -> str:
+        """Writes one of several files."""
+        path = self.folder / str(len(os.listdir(self.folder)))
+        path.write_bytes(data if isinstance(data, bytes) else data.encode())
+        return str(path)
 
     def net(self, text: str) -> Description:
         self.path.write_text(text)

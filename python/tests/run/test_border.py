@@ -1,7 +1,5 @@
 """The control socket, with clients that are idle, send garbage, disappear or belong to another user."""
 
-from __future__ import annotations
-
 import contextlib
 import fcntl
 import json
@@ -16,7 +14,7 @@ import unittest
 from pathlib import Path
 from typing import Iterator
 
-from linked import found, hinge, matching, needs_rooms, stopped, until
+from linked import found, hinge, matching, needs_rooms, plan_of, stopped, until
 from test_control import InAFolder
 
 from hinge.border.programs import can_be_read
@@ -24,7 +22,6 @@ from hinge.run.cgroups import name_of, own_folder, remove_left
 from hinge.run.control import Control
 from hinge.run.host_lines import UNTAKEN, Answer
 from hinge.run.page import Page
-from hinge.run.plan import Plan
 
 ODD = (
     b"5\n",
@@ -70,7 +67,6 @@ class OfCgroups(unittest.TestCase):
         names[2].mkdir()
         self.addCleanup(lambda: [one.rmdir() for one in names if one.exists()])
         with subprocess.Popen([sys.executable, "-c", MAKES_CGROUPS, *names[:2]], stdout=subprocess.PIPE, cwd=PYTHON) as run:
-            assert run.stdout
             run.stdout.read(1)
             remove_left(above)
             self.assertEqual([one.exists() for one in names], [True] * 3)
@@ -121,7 +117,7 @@ class OfClients(InAFolder):
             self.assertEqual(self.change("up", "7ms").returncode, 0)
 
     def test_an_outage_is_one_line_for_the_host(self) -> None:
-        taken, plan = list[str](), plan_of_two()
+        taken, plan = list[str](), plan_of("pipe 1 config delay 5", "pipe 2 config delay 5")
         control = Control(str(self.socket), plan, Page(), plan.read, dict)
         self.addCleanup(control.end)
 
@@ -183,13 +179,6 @@ class OfClients(InAFolder):
         for words in (["status", "x"], ["change", "x", "1ms"], ["down", "x"], ["exec", "x", "a"]):
             done = hinge(*words, XDG_RUNTIME_DIR=str(self.folder))
             self.assertEqual((done.returncode, done.stderr.endswith("it is another user's\n")), (2, True), done.stderr)
-
-
-def plan_of_two() -> Plan:
-    plan = Plan()
-    for pipe in (1, 2):
-        plan.link(f"pipe {pipe} config delay 5")
-    return plan
 
 
 def hosts_of(process: int) -> list[int]:

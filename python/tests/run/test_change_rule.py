@@ -1,8 +1,7 @@
 """A change that leaves out a link's word, in each of the five forms of a change. LINKS.md states the rule."""
 
-from __future__ import annotations
 
-
+from linked import plan_of
 from with_folder import WithFolder
 
 from hinge.configurations.configured import spelled_lines
@@ -40,10 +39,7 @@ def options_of(lines: list[str]) -> str:
 
 
 def begun() -> Plan:
-    plan = Plan()
-    plan.link("pipe 1 config bw 2Mbit/s delay 20 queue 5")
-    plan.link("pipe 2 config")
-    return plan
+    return plan_of("pipe 1 config bw 2Mbit/s delay 20 queue 5", "pipe 2 config")
 
 
 class OneRule(WithFolder):

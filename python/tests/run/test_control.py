@@ -1,7 +1,5 @@
 """Changes of a running link, and questions to it, through `--control`."""
 
-from __future__ import annotations
-
 import contextlib
 import json
 import os
@@ -19,7 +17,7 @@ from unittest import mock
 
 import pytest
 
-from linked import HINGE, Done, audited_as_lawful, found, hinge, matching, needs, needs_host, needs_rooms, run, until
+from linked import HINGE, Done, audited_as_lawful, found, hinge, matching, needs, needs_host, needs_rooms, outcome, run, until
 from with_folder import WithFolder
 
 from hinge.border.asking import ask
@@ -45,13 +43,16 @@ os._exit(0)
 class InAFolder(WithFolder):
     def setUp(self) -> None:
         super().setUp()
-        self.socket, self.go, self.history = self.folder / "socket", self.folder / "go", self.folder / "history"
+        self.socket = self.folder / "socket"
+        self.go = self.folder / "go"
+        self.history = self.folder / "history"
 
     @contextlib.contextmanager
     def running(self, *words: object) -> Iterator["subprocess.Popen[str]"]:
         """Starts a run with a socket, which lasts until the file `go` exists."""
         command = [*HINGE, *map(str, words), *f"--control {self.socket} --transcript {self.history} --quiet".split()]
-        command += ["--no-realtime"] * (words[0] == "net")  # of which a user without rights is told
+        if words[0] == "net":
+            command.append("--no-realtime")  # of which a user without rights is told
         loop = ["--", "sh", "-c", f"until [ -e {self.go} ]; do sleep 0.05; done"] if words[0] != "udp" else []
         begun = subprocess.Popen([*command, *loop], stdout=subprocess.PIPE, stderr=subprocess.PIPE, text=True)
         try:
@@ -179,6 +180,8 @@ class OfRuns(InAFolder):
         self.socket.unlink()
         with socket.socket(socket.AF_UNIX) as left:
             left.bind(str(self.socket))
+        done = self.change("up", "5ms")
+        assert done.stderr == f"hinge change: {self.socket}: its run was killed and left this socket, which may be removed\n"
         assert run("--quiet", "--control", self.socket, "--", "true").returncode == 0
         with self.running("run"):
             assert run("--quiet", "--control", self.socket, "--", "true").returncode == 6
@@ -232,13 +235,7 @@ class OfHosts(InAFolder):
             assert self.exec("c", "--", "/no/such").returncode == 127
             refused = self.exec("d", "--", "true")
             assert (refused.returncode, refused.stderr) == (2, "hinge exec: 'd': no host of this net, which are a, r, c\n")
-            shell = subprocess.run(
-                [*HINGE, "exec", str(self.socket), "r"],
-                input="hostname",
-                capture_output=True,
-                text=True,
-                env={**os.environ, "SHELL": "/bin/sh"},
-            )
+            shell = outcome([*HINGE, "exec", self.socket, "r"], input="hostname", env={**os.environ, "SHELL": "/bin/sh"})
             assert (shell.returncode, shell.stdout) == (0, "r\n"), shell.stderr
         assert self.history.read_text().count("\nc,0,submit,") == 4
 

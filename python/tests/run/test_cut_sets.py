@@ -3,8 +3,6 @@
 All moments are within the first 100 ns of the links, or of the main command. So the host obeys them in one turn, each
 at its moment, and no clock decides anything."""
 
-from __future__ import annotations
-
 import random
 import re
 from unittest import mock
@@ -38,7 +36,8 @@ class OfNets(WithFolder):
 
     def drawn(self, number: int) -> tuple[list[str], list[str]]:
         """Draws the hosts and links of a plan, and its lines `at`, without heals of links that aren't cut."""
-        draw, hosts = random.Random(number), [f"{letter}{number}" for letter in "abcd"]
+        draw = random.Random(number)
+        hosts = [f"{letter}{number}" for letter in "abcd"]
         net = [f"host {name}" for name in hosts]
         net += [f"link {one} {two} 3ms" for place, one in enumerate(hosts) for two in hosts[place + 1 :]]
         lines = list[str]()
@@ -80,7 +79,7 @@ class ByTheHost(OfNets):
         for first in range(0, PLANS, AT_ONCE):
             plans = [line for number in range(first, first + AT_ONCE) for part in self.drawn(number) for line in part]
             has_main = first % (2 * AT_ONCE) == 0
-            judge = self.obeyed(self.made(plans + [f"main a{first} true"] * has_main), has_main)
+            judge = self.obeyed(self.made(plans + ([f"main a{first} true"] if has_main else [])), has_main)
             self.assertEqual((judge.faults, judge.now >= LAST), ([], True), "\n".join(plans))
             for cuts in (course.cuts for course in judge.of.values()):
                 together += any(one.moment < two.moment < one.end for one in cuts for two in cuts if two.kind == "cut")

@@ -1,13 +1,10 @@
 """Cuts of a link are counted: a direction opens when the last cut ends, or by `heal`."""
 
-from __future__ import annotations
-
 import os
 import time
 import unittest
 
-from linked import Linked, found, needs_host, state_of, stopped, until, with_lines
-from link_packets import plan_of, udp
+from linked import Linked, found, needs_host, plan_of, state_of, stopped, udp, until, with_lines
 
 from hinge.run.page import Way
 
@@ -16,8 +13,7 @@ from hinge.run.page import Way
 class OfPlans(unittest.TestCase):
     def obeyed(self, plan: str, end: int = 60_000_000) -> list[str]:
         """Runs two pipes with this plan until `end` ns. Returns the configuration lines that the link applied, without the two
-        lines that created the pipes.
-        """
+        lines that created the pipes."""
         link = Linked("line pipe 1 config delay 5 plr 0.5\nline pipe 2 config\n" + plan + f"at {end} remark end\n")
         until(lambda: link.page.read()["moment"] >= end)
         ended = link.end()
@@ -48,15 +44,13 @@ class OfPlans(unittest.TestCase):
         packets."""
         chosen, cut, whole = (f"pipe 2 config{loss}" for loss in (" plr 0.000000000465661288", " plr 1", ""))
         port = "at 1000000 cut 2 1 17 53\nat 9000000 open 2 1\n"
-        self.assertEqual(self.obeyed(port), [chosen, whole])
-        self.assertEqual(self.obeyed(port.replace(" 2 ", " 1 ")), [])
-        self.assertEqual(self.obeyed(port + "at 2000000 cut 2 2\nat 3000000 open 2 2\n"), [chosen, cut, chosen, whole])
-        self.assertEqual(self.obeyed(port + "at 2000000 cut 2 2\nat 9500000 open 2 2\n"), [chosen, cut, whole])
-        self.assertEqual(self.obeyed(port + "at 2000000 heal 2 17 54\nat 3000000 heal 2 6 53\n"), [chosen, whole])
+        assert self.obeyed(port) == [chosen, whole]
+        assert self.obeyed(port.replace(" 2 ", " 1 ")) == []
+        assert self.obeyed(port + "at 2000000 cut 2 2\nat 3000000 open 2 2\n") == [chosen, cut, chosen, whole]
+        assert self.obeyed(port + "at 2000000 cut 2 2\nat 9500000 open 2 2\n") == [chosen, cut, whole]
+        assert self.obeyed(port + "at 2000000 heal 2 17 54\nat 3000000 heal 2 6 53\n") == [chosen, whole]
         for heal in ("heal 2 17 53", "heal 2"):
-            self.assertEqual(
-                self.obeyed(port + f"at 2000000 {heal}\nat 3000000 pipe 2 config plr 0.5\n")[:2], [chosen, whole], heal
-            )
+            assert self.obeyed(port + f"at 2000000 {heal}\nat 3000000 pipe 2 config plr 0.5\n")[:2] == [chosen, whole], heal
 
     def test_a_line_in_a_cut_holds_after_it(self) -> None:
         assert self.obeyed("at 1 cut 1 1\nat 2 pipe 1 config bw 1000bit/s plr 0.25 queue 5\nat 3 open 1 1\n") == [
@@ -73,8 +67,7 @@ class OfPlans(unittest.TestCase):
 
     def test_acts_are_writes_in_the_order_of_the_plan(self) -> None:
         """Stops form a set: a stop ends by its own number, and the number 0 ends all stops. A kill freezes the processes
-        meanwhile.
-        """
+        meanwhile."""
         ends = {name: os.pipe() for name in ("freeze", "kill")}
         for end in (one for pair in ends.values() for one in pair):
             self.addCleanup(os.close, end)

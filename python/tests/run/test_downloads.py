@@ -1,7 +1,5 @@
 """Downloads behind `hinge run`, from servers inside and from the world outside."""
 
-from __future__ import annotations
-
 import os
 import re
 import shlex
@@ -11,10 +9,10 @@ import sys
 import tempfile
 import unittest
 
-from behind import Behind
+from in_a_folder import Behind
 from hinge.run.interfaces import leads_out_in_ipv6
 from hinge.run.outside import GATEWAY, GATEWAY6
-from linked import AS_IN_A_CONTAINER, HINGE, audited_as_lawful, found, needs, needs_mounts, needs_rooms, run, web_server
+from linked import AS_IN_A_CONTAINER, HINGE, audited_as_lawful, found, needs, needs_mounts, needs_rooms, outcome, run, web_server
 
 
 @needs_rooms
@@ -36,9 +34,8 @@ class OfDownloads(Behind):
 
     @needs("curl")
     def test_a_fast_download_comes_as_packets_of_the_link(self) -> None:
-        """The kernel's large segments are cut to packets of the interface's greatest length, in both families, and the content
-        is complete.
-        """
+        """The kernel's large segments are cut to packets of the interface's greatest length, in both families, and the content is
+        complete."""
         data = os.urandom(2 * 10**7)
         (self.folder / "data").write_bytes(data)
         serve = f"cd {self.folder} && exec {sys.executable} -m http.server 8080 --bind :: 2>/dev/null >&2"
@@ -134,14 +131,8 @@ class OfOutside(Behind):
         (self.folder / "data").write_text("from outside")
         with web_server(self.folder, own) as port:
             ask = ["curl", "-s", "-m", "9", "-w", " %{time_total}", f"http://{gateway}:{port}/data"]
-            done = subprocess.run(
-                [*before, *HINGE, "run", "--quiet", option, "--up", "30ms", "--down", "30ms", "--", *ask],
-                capture_output=True,
-                text=True,
-                timeout=60,
-                stdin=subprocess.DEVNULL,
-                env={**os.environ, "PATH": path},
-            )
+            words = [*before, *HINGE, "run", "--quiet", option, "--up", "30ms", "--down", "30ms", "--", *ask]
+            done = outcome(words, stdin=subprocess.DEVNULL, env={**os.environ, "PATH": path})
         self.assertEqual(done.stderr, "")
         return done.stdout
 

@@ -1,7 +1,5 @@
 """hinge's answers to other tools' commands and options: each answer is accepted unchanged."""
 
-from __future__ import annotations
-
 import contextlib
 import io
 import os
@@ -34,7 +32,8 @@ from hingetulip_words.link import Place, corrected
 from linked import needs, needs_rooms
 from with_folder import WithFolder
 
-PYTHON, DATA = Path(__file__).resolve().parents[2], Path(__file__).resolve().parents[1] / "kit_data"
+PYTHON = Path(__file__).resolve().parents[2]
+DATA = Path(__file__).resolve().parents[1] / "kit_data"
 FOREIGN = [line.split("  =>  ") for line in (DATA / "foreign.txt").read_text().splitlines()]  # lines, and what is said of each
 CORRECTED = {
     "rate 10mbit delay 20ms loss 1% limit 100": "10Mbit/s 20ms queue 100 loss 1%",
@@ -66,9 +65,8 @@ def refused(words: list[str]) -> str:
 
 class Lines(unittest.TestCase):
     def test_a_whole_line_gets_a_whole_line_or_why_there_is_none(self) -> None:
-        """Each advised line is accepted unchanged: the parser reads the words after `hinge run`, and the readers of links read
-        the links.
-        """
+        """Each advised line is accepted unchanged: the parser reads the words after `hinge run`, and the readers of links read the
+        links."""
         assert len(FOREIGN) > 100
         for line, wanted in FOREIGN:
             with self.subTest(line):
@@ -195,7 +193,7 @@ class Options(unittest.TestCase):
                 plan_of(run_options([*words, "true"]), 1500)
         for option, (_, has_value) in OPTIONS.items():
             with self.subTest(option):
-                said = refused([option, *["5"] * has_value, "true"])
+                said = refused([option, *(["5"] if has_value else []), "true"])
                 assert f"{option}: write " in said
                 for text in re.findall("--map '.*' --line '.*?'", said):
                     plan_of(run_options([*shlex.split(text.replace("RULE", "tcp")), "true"]), 1500)

@@ -1,7 +1,5 @@
 """The host as an Ethernet switch between sockets: a frame's outgoing ports, and its row."""
 
-from __future__ import annotations
-
 import socket
 import unittest
 from random import Random
@@ -12,9 +10,14 @@ from hinge.run.page import ENDED_WELL
 
 PORTS = 3
 MACS = [bytes([2, 0, 0, 0, 0, port]) for port in range(PORTS + 1)]  # of the hosts, and one more
-ALL, GROUP, OWN_SWITCH = b"\xff" * 6, bytes.fromhex("01005e000012"), bytes.fromhex("0180c2000000")
+ALL = b"\xff" * 6
+GROUP = bytes.fromhex("01005e000012")
+OWN_SWITCH = bytes.fromhex("0180c2000000")
 TAG = bytes.fromhex("8100e005")  # VLAN 5, priority 7
-IPV4, IPV6, ARP, ODD = b"\x08\x00", b"\x86\xdd", b"\x08\x06", b"\x88\xb5"
+IPV4 = b"\x08\x00"
+IPV6 = b"\x86\xdd"
+ARP = b"\x08\x06"
+ODD = b"\x88\xb5"
 LAST = ALL + bytes.fromhex("0200000000ee") + ODD + b"the last"
 PACKET = ip4("10.8.0.1", "10.8.0.2", 17, 5, 6, 40)
 
@@ -133,7 +136,7 @@ class OfSwitches(unittest.TestCase):
 
     def test_jitter_and_copies(self) -> None:
         got, _ = self.switched(
-            [Sent(0, frame(ALL, 0, b"x"))], "line pipe 60000 config delay 3\njitter 3 60000 1 1\ncopies 5 2147483648 1\n"
+            [Sent(0, frame(ALL, 0, b"x"))], "line pipe 60000 config delay 3\njitter 3 60000 1 1\nduplicate 5 2147483648 1\n"
         )
         assert got == [[], [frame(ALL, 0, b"x")], [frame(ALL, 0, b"x")] * 2]
 

@@ -1,7 +1,5 @@
 """`hinge run --netns`: a link inside an existing network, such as a container's."""
 
-from __future__ import annotations
-
 import os
 import re
 import shlex
@@ -11,7 +9,7 @@ import time
 import unittest
 from unittest import mock
 
-from hinge.run.containers import process_of
+from hinge.run.joined import process_of
 from hinge.run.system import Missing
 from hinge.run.words import Wrong
 from linked import HINGE, Done, audited_as_lawful, needs, needs_rooms, run, until
@@ -77,26 +75,15 @@ class OfNetworks(WithFolder):
 
     def test_what_runs_there_is_reached_through_the_link(self) -> None:
         (self.folder / "data").write_bytes(os.urandom(200_000))
-        server = subprocess.Popen(
-            ["ip", "netns", "exec", self.name, sys.executable, "-m", "http.server", "8000"],
-            cwd=self.folder,
-            stdout=subprocess.DEVNULL,
-            stderr=subprocess.DEVNULL,
-        )
+        words = ["ip", "netns", "exec", self.name, sys.executable, "-m", "http.server", "8000"]
+        server = subprocess.Popen(words, cwd=self.folder, stdout=subprocess.DEVNULL, stderr=subprocess.DEVNULL)
         self.addCleanup(server.wait)
         self.addCleanup(server.kill)
         ask = ["curl", "-s", "-m", "20", "-o", str(self.folder / "got"), f"http://{INSIDE}:8000/data"]
         until(lambda: self.outside(*ask).returncode == 0)
         before = self.state()
-        begun = subprocess.Popen(
-            [
-                *HINGE,
-                "run",
-                "--netns",
-                str(server.pid),
-                *shlex.split(f"--up '2Mbit/s 20ms' --down 30ms --control {self.folder}/c --quiet"),
-            ]
-        )
+        words = shlex.split(f"--up '2Mbit/s 20ms' --down 30ms --control {self.folder}/c --quiet")
+        begun = subprocess.Popen([*HINGE, "run", "--netns", str(server.pid), *words])
         try:
             until((self.folder / "c").exists)
             until(lambda: self.took(self.outside("ping", "-c", "1", INSIDE)) >= DELAY)

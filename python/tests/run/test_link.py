@@ -1,7 +1,5 @@
 """The host between two sockets: packets, the map, losses, changes, outages and the end."""
 
-from __future__ import annotations
-
 import fcntl
 import select
 import signal
@@ -10,11 +8,27 @@ import struct
 import time
 import unittest
 
-from linked import AT_ONCE, SEEDS, Ended, Linked, audited_as_lawful, found, ip4, ip6, needs_host, stopped, until, with_sigterm
+from linked import (
+    AT_ONCE,
+    CLIENT,
+    SEEDS,
+    SERVER,
+    Ended,
+    Linked,
+    audited_as_lawful,
+    found,
+    ip4,
+    ip6,
+    needs_host,
+    plan_of,
+    stopped,
+    udp,
+    until,
+    with_sigterm,
+)
 from hinge.captures.random_words import word
 from hinge.loss import LOST, GilbertElliott
 from hinge.run.page import ENDED_WELL
-from link_packets import CLIENT, SERVER, plan_of, udp
 
 
 @needs_host
@@ -133,9 +147,8 @@ class OfLosses(unittest.TestCase):
         self.assertEqual((got, link.end().counts.ways[0]["lost"]), (list(range(1, 600, 2)), 300))
 
     def test_words_and_losses_are_those_of_the_models(self) -> None:
-        """hinge.captures.random_words draws the words of a loss rate, and hinge.loss decides by the same seed which packets a
-        burst loses.
-        """
+        """hinge.captures.random_words draws the words of a loss rate, and hinge.loss decides by the same seed which packets a burst
+        loses."""
         link = Linked("seed 0 9\nseed 1 9\nline pipe 1 config plr 0.3\nline pipe 2 config\n")
         for number in range(30):
             link.near.send(udp(1))
@@ -155,8 +168,7 @@ class OfLosses(unittest.TestCase):
 
     def test_the_share_of_losses_is_that_of_the_model(self) -> None:
         """With 0.25 to the bad state and 0.75 to the good one, a quarter of all packets is lost, within 0.034: five standard
-        deviations for 4,000 separate draws.
-        """
+        deviations for 4,000 separate draws."""
         plan = plan_of("pipe 1 config")
         plan.loss("gilbert:0.25,0.75")
         link = Linked(plan.text(3))
@@ -172,8 +184,8 @@ class OfLosses(unittest.TestCase):
 WRONG = """transcript|transcript x|at|at x pipe 1 config|outage 5 1|outage 5 0 9|outage 5 3 9|hold 1 5|hold 3 5 6|hold 1 6 5\
 |slots 0 1|slots 3 1|slots 1|slots 1 x|slots 1 5 4|slots 1 0|map 0 0 1|seed|seed 2 1|seed -1 1|gilbert 0 1 2 3|gilbert 5 1 2 3 4\
 |list 0 x|list 0 1 x|list 2 1|jitter 0 9 2|jitter 0 0 2 1|jitter 0 9 0 1|jitter 0 65535 2 1|jitter 0 2147483647 2147483647 1\
-|jitter 7 9 2 1|copies 0 5|copies 2 5 1|switch |switch 0 2|switch 0 x|switch -1|realtime now|simulated now|epoch|epoch x\
-|epoch 5 x|control 0|contents too|lines||list -1 3|hold 9 1 2|jitter 0 65530 7 7|copies 0 1|corruption 0 1|fault 0 1 1|fault 2 1 1 1\
+|jitter 7 9 2 1|duplicate 0 5|duplicate 2 5 1|switch |switch 0 2|switch 0 x|switch -1|realtime now|simulated now|epoch|epoch x\
+|epoch 5 x|control 0|contents too|lines||list -1 3|hold 9 1 2|jitter 0 65530 7 7|duplicate 0 1|corrupt 0 1|fault 0 1 1|fault 2 1 1 1\
 |fault 0 3 1 1|fault 0 2 1 0|fault 0 2 1 65536|host b 3 4|host b 3 4 5 6|at 5 act stop b 1|at 5 cut 3 1|at 5 cut 0 1|at 5 open 1\
 |at 5 cut 1 1 1|at 5 heal x|at 5 cut 1 1 17 0|at 5 cut 1 1 17 53 1|at 5 heal 1 17|main line pipe 1 config|main at 5 cut 9 9|"""
 

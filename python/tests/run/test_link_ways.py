@@ -1,7 +1,5 @@
 """A link's words mean the same in options, nets, timelines, changes, marks of tests, hingetulip.aio and lines."""
 
-from __future__ import annotations
-
 import re
 import tempfile
 from pathlib import Path
@@ -25,6 +23,7 @@ from hingetulip import LineError, aio
 from hingetulip.aio.options import Options
 from hingetulip_words.explained import explained
 from hingetulip_words.presets import PRESETS
+from hingetulip_words.values import EXTRAS, SHARES
 
 NO_WORDS = "no words of a link (example: 10Mbit/s 20ms)"
 ROOM = "out of range; a queue has room for 1 to 10000 packets, or for 1 to 1024Kbytes"
@@ -97,32 +96,20 @@ SAME = {
     "loss 1% plr 0.5": "'plr 0.5': a second loss rate beside 'loss 1%'; write one of them",
     "5Mbit/s  20ms queue 100 loss 1% # slow": "bw 5Mbit/s delay 20ms queue 100 plr 0.01",
 }
-# What a run and a link of sim_net do beside dummynet, from their beginning on; in a change; and as options of a pipe alone.
+SHARES_OF_ALL = [word for word in SHARES if word != "corrupt"]  # which sim_net lacks
+# What a run and a link of sim_net do beside dummynet, from their beginning on; a change and the options of a pipe alone refuse the word.
 OF_RUNS = {
-    "20ms jitter 5ms": ("delay 20ms", f"'jitter': {OF_A_RUN}", f"'jitter': {NONE}"),
-    "duplicate 0.5%": ("", f"'duplicate': {OF_A_RUN}", f"'duplicate': {NONE}"),
-    "duplicate 0%": ("", f"'duplicate': {OF_A_RUN}", f"'duplicate': {NONE}"),
-    "jitter 0ms": (f"'jitter 0ms': not a jitter; {JITTER}", f"'jitter': {OF_A_RUN}", f"'jitter': {NONE}"),
-    "jitter 1001ms": (f"'jitter 1001ms': not a jitter; {JITTER}", f"'jitter': {OF_A_RUN}", f"'jitter': {NONE}"),
-    "jitter 5": (f"'jitter 5': not a jitter; {JITTER}", f"'jitter': {OF_A_RUN}", f"'jitter': {NONE}"),
-    "jitter": (f"'jitter': its value is missing; {JITTER}", f"'jitter': {OF_A_RUN}", f"'jitter': {NONE}"),
-    "jitter 1ms jitter 2ms": ("'jitter 2ms': a second jitter beside 'jitter 1ms'; ", f"'jitter': {OF_A_RUN}", f"'jitter': {NONE}"),
-    "duplicate 101%": (
-        "'duplicate 101%': not a share of the packets; write duplicate 1%",
-        f"'duplicate': {OF_A_RUN}",
-        f"'duplicate': {NONE}",
-    ),
-    "reorder 5%": (
-        *["'reorder': no link reorders by a share; write jitter 5ms, by which packets overtake each other"] * 2,
-        f"'reorder': {NONE}",
-    ),
-    # to change a link into one without words is no use; to begin so is
-    "": ("", NO_WORDS, ""),
-    "# nothing": ("", NO_WORDS, ""),
+    "20ms jitter 5ms": "delay 20ms",
+    **{f"{word} {share}": "" for word in SHARES_OF_ALL for share in ("0%", "0.5%", "100%")},
+    **{f"{word} 101%": f"'{word} 101%': not a share of the packets; write {word} 1%" for word in SHARES_OF_ALL},
+    "jitter 0ms": f"'jitter 0ms': not a jitter; {JITTER}",
+    "jitter 1001ms": f"'jitter 1001ms': not a jitter; {JITTER}",
+    "jitter 5": f"'jitter 5': not a jitter; {JITTER}",
+    "jitter": f"'jitter': its value is missing; {JITTER}",
+    "jitter 1ms jitter 2ms": "'jitter 2ms': a second jitter beside 'jitter 1ms'; ",
+    "reorder 5%": "'reorder': no link reorders by a share; write jitter 5ms, by which packets overtake each other",
 }
-
-
-EMPTY = ("", "# nothing")
+EMPTY = ("", "# nothing")  # to change a link into one without words is no use; to begin so is
 OF_EMPTY = ("--down", "a timeline")  # which say another thing of an empty link
 
 
@@ -198,13 +185,17 @@ def answer(way: Callable[[str], str], text: str) -> str:
 def cases() -> Iterator[tuple[str, str, str]]:
     for text, wanted in SAME.items():
         yield from ((name, text, wanted) for name in WAYS)
-    for text, (run, change, elsewhere) in OF_RUNS.items():
-        for ways, wanted in ((RUN, run), (CHANGE, change), (ELSEWHERE, elsewhere)):
-            yield from ((name, text, wanted) for name in ways if name not in OF_EMPTY or text not in EMPTY)
+    for text, run in OF_RUNS.items():
+        word = next(word for word in (*EXTRAS, "reorder") if word in text)
+        change = run if word == "reorder" else f"'{word}': {OF_A_RUN}"
+        for ways, wanted in ((RUN, run), (CHANGE, change), (ELSEWHERE, f"'{word}': {NONE}")):
+            yield from ((name, text, wanted) for name in ways)
+    for ways, wanted in ((RUN, ""), (CHANGE, NO_WORDS), (ELSEWHERE, "")):
+        yield from ((name, text, wanted) for name in ways for text in EMPTY if name not in OF_EMPTY)
     for name in WAYS:
         lacks = {"aio": "no packet has a checksum here, which would discard it; write loss 1%", "a mark": NONE}
         why = OF_A_RUN if name in CHANGE or name == "aio, a change" else lacks.get(name, "")
-        yield name, "corrupt 1%", f"'corrupt{' 1%' * (name == 'aio')}': {why}" if why else ""
+        yield name, "corrupt 1%", f"'corrupt{' 1%' if name == 'aio' else ''}': {why}" if why else ""
     yield from [("--down", "# nothing", f"'# nothing': {NO_WORDS}; an open one is 'bw 0'")]
     yield from (("aio, a change", text, NO_WORDS) for text in ("", "# nothing"))
 

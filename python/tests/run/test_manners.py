@@ -1,15 +1,18 @@
-"""How `hinge run` treats its server, its standard streams and its files."""
-
-from __future__ import annotations
+"""How `hinge run` treats its server, its standard streams and its files; and the users and terminals of the rooms, with subordinate ids
+and without."""
 
 import contextlib
 import json
 import os
+import shutil
 import signal
 import subprocess
+import sys
+import tempfile
 from typing import Any, Optional
 
-from linked import HINGE, audited_as_lawful, found, hinge, matching, needs, needs_rooms, run, until
+from hinge.run.users import Subordinate, mapping, subordinate
+from linked import HINGE, audited_as_lawful, found, hinge, matching, needs, needs_mounts, needs_rooms, outcome, run, until
 from with_folder import WithFolder
 
 
@@ -54,8 +57,7 @@ class OfServers(WithFolder):
     def test_a_signal_while_it_is_waited_for(self) -> None:
         ready = self.folder / "ready"
         begun = subprocess.Popen(
-            [*HINGE, "run", "--server", f"touch {ready}; sleep 77", "--server-wait", "1h", "--", "true"],
-            stderr=subprocess.DEVNULL,
+            [*HINGE, "run", "--server", f"touch {ready}; sleep 77", "--server-wait", "1h", "--", "true"], stderr=subprocess.DEVNULL
         )
         until(ready.exists)
         begun.send_signal(signal.SIGTERM)
@@ -66,12 +68,7 @@ class OfServers(WithFolder):
 class OfStreams(WithFolder):
     def test_closed_ones_are_nothing(self) -> None:
         for closed in ("<&-", ">&-", "2>&-", "<&- >&- 2>&-"):
-            done = subprocess.run(
-                ["sh", "-c", f'"$@" {closed}', "sh", *HINGE, "run", "--quiet", "--", "sh", "-c", "exit 3"],
-                capture_output=True,
-                text=True,
-                timeout=60,
-            )
+            done = outcome(["sh", "-c", f'"$@" {closed}', "sh", *HINGE, "run", "--quiet", "--", "sh", "-c", "exit 3"])
             assert (done.returncode, done.stdout, done.stderr) == (3, "", ""), closed
 
 
@@ -138,3 +135,74 @@ class OfFiles(WithFolder):
     def test_no_server_is_at_port_0(self) -> None:
         done = hinge("udp", "0", "localhost:0")
         assert (done.returncode, done.stderr) == (2, "hinge udp: SERVER: no server listens at port 0; write the server's port\n")
+
+
+# Root as a user of its own, who can open tun, and whose subordinate ids are in a file.
+AS_A_USER = [
+    *"unshare -m sh -c".split(),
+    (
+        'mount -t tmpfs none /dev/net && mknod -m 666 /dev/net/tun c 10 200 && mount --bind "$0" /etc/subuid && mount'
+        ' --bind "$0" /etc/subgid && exec setpriv --reuid=65534 --regid=65534 --clear-groups "$@"'
+    ),
+]
+# root's own may lie where no other user can go
+PYTHON = shutil.which("python3", path="/usr/bin:/bin") or sys.executable
+OPENS = (
+    f'{PYTHON} -c "import grp, os; one, two = os.openpty(); print(os.stat(os.ttyname(two)).st_gid =='
+    " grp.getgrnam('tty').gr_gid)\""
+)
+
+
+class OfMaps(WithFolder):
+    def test_an_id_is_itself_and_the_others_are_subordinate(self) -> None:
+        assert " ".join(mapping(1000, Subordinate(100000, 65536))) == "0 100000 1000 1000 1000 1 1001 101000 64536"
+        assert " ".join(mapping(0, Subordinate(7, 5))) == "0 0 1 1 7 5"
+        assert " ".join(mapping(100000, Subordinate(200000, 65536))) == "0 200000 65536 100000 100000 1"
+        assert " ".join(mapping(5, Subordinate(200000, 5))) == "0 200000 5 5 5 1"
+
+    def test_what_a_file_gives_to_a_user(self) -> None:
+        path = self.folder / "subuid"
+        path.write_text("other:1:2\nroot:3:x\nroot:300000:65536\n# none\n4321:7:8\n")
+        assert [subordinate(str(path), user) for user in (0, 4321, 999999)] == [Subordinate(300000, 65536), Subordinate(7, 8), None]
+        assert subordinate(f"{self.folder}/none", 0) is None
+
+
+@needs_rooms
+@needs_mounts
+@needs("newuidmap", "newgidmap")
+class OfUsers(WithFolder):
+    def as_a_user(self, given: str, *words: str) -> "subprocess.CompletedProcess[str]":
+        with tempfile.NamedTemporaryFile("w") as file:
+            file.write(given)
+            file.flush()
+            os.chmod(file.name, 0o644)
+            return outcome([*AS_A_USER, file.name, *words], cwd="/", stdin=subprocess.DEVNULL)
+
+    def run_of(self, given: str, server: str, *command: str) -> str:
+        done = self.as_a_user(given, *HINGE, "run", "--quiet", "--server", server, "--server-wait", "3s", "--", *command)
+        assert done.returncode == 0, done.stderr
+        return done.stdout
+
+    def test_terminals_have_their_group_where_there_are_subordinate_ids(self) -> None:
+        for given, wanted in (("65534:200000:65536\n", "True"), ("", "False")):
+            assert self.run_of(given, OPENS, "id", "-u").split() == [wanted, "65534"]
+
+    def test_ids_that_the_system_does_not_give(self) -> None:
+        """newuidmap refuses the ids, and the room contains only the user's own."""
+        with tempfile.NamedTemporaryFile("w") as file:
+            file.write("65534:0:5\n")
+            file.flush()
+            os.chmod(file.name, 0o644)
+            same = AS_A_USER[:-1] + [AS_A_USER[-1].replace('mount --bind "$0" /etc/subgid', "true")]
+            done = outcome([*same, file.name, *HINGE, "run", "--quiet", "--", "cat", "/proc/self/gid_map"], cwd="/")
+        assert (done.returncode, done.stdout.split()) == (0, ["65534", "65534", "1"]), done.stderr
+
+    def test_hosts_of_a_net(self) -> None:
+        os.chmod(self.folder, 0o777)
+        net = self.folder / "x.net"
+        net.write_text(
+            f"host a {OPENS} >{self.folder}/told; exec sleep 100\nmain b until [ -s {self.folder}/told ]; do sleep 0.05;"
+            " done\nlink a b\n"
+        )
+        done = self.as_a_user("65534:200000:65536\n", *HINGE, "net", str(net), "--quiet")
+        assert (self.folder / "told").read_text() == "True\n", done.stderr

@@ -1,9 +1,8 @@
 """Acts on the hosts of `hinge net`, and moments counted from the main command's start."""
 
-from __future__ import annotations
-
 import os
 import subprocess
+import sys
 import time
 from pathlib import Path
 
@@ -14,6 +13,11 @@ from hinge.net import CommandFailed, Net, NetError
 from hinge.run.cgroups import own_folder
 
 TWO = "link a c 5ms\n"
+NAP = """from hinge.events import forms
+from hinge.__main__ import main
+forms.ACTS["nap"] = forms.WORDS["nap"] = forms.Word("nap HOST", "", is_write=%s)
+main()
+"""
 
 
 @needs_rooms
@@ -94,9 +98,8 @@ class OfHosts(InAFolder):
         self.assertEqual([one["words"] for one in self.summary()["acts"]], words)
 
     def test_a_stop_of_the_first_process_ends_nothing(self) -> None:
-        """The first process is stopped for longer than its period of a second. Meanwhile the links carry out their acts, and
-        report each moment.
-        """
+        """The first process is stopped for longer than its period of a second. Meanwhile the links carry out their acts, and report
+        each moment."""
         self.file.write_text(
             f"main a echo begun > {self.folder}/told; sleep 2; echo ended\nhost b exec sleep 99\n{TWO.replace('c', 'b')}"
             "at 500ms stop b 300ms\n"
@@ -129,6 +132,19 @@ class OfHosts(InAFolder):
         )
         self.assertEqual((done.returncode, self.lines()), (0, ["0"]), done.stderr)
         self.assertEqual(list(Path(str(own_folder())).glob("hinge-*-stopped")), [])
+
+    def test_an_act_without_an_effect_ends_the_run(self) -> None:
+        """None of the three programs that act on hosts takes an unknown word for another one."""
+        self.file.write_text(f"host a exec sleep 99\nmain c sleep 9\n{TWO}at 100ms nap a\n")
+        for is_write, more, told in (
+            (False, [], "hinge net: nap: no act on a host"),
+            (True, [], "hinge: act nap a 0: no line"),
+            (False, ["--simulated"], "the simulated machine ended by itself: nap: Function not implemented"),
+        ):
+            words = [sys.executable, "-c", NAP % is_write, "net", self.file, *more]
+            done = subprocess.run(words, capture_output=True, text=True, timeout=60)
+            self.assertNotEqual(done.returncode, 0)
+            self.assertIn(told, done.stderr)
 
     def test_a_net_without_a_main_command_lasts_until_a_restart(self) -> None:
         done = self.net(
@@ -193,7 +209,8 @@ class OfMoments(InAFolder):
         done = self.net(self.SLOW + "at 0s cut a 1h\n")
         self.assertNotIn("before the main", done.stderr)
         self.assertEqual((sum(way["lost"] for way in self.summary()["ways"]) > 0, done.returncode), (True, 1))
-        cuts, begun = found(r"^r,advanced,(\d+)\nc,0,configure,pipe 1 .* plr 1$", self.history()), self.summary()["main"]
+        cuts = found(r"^r,advanced,(\d+)\nc,0,configure,pipe 1 .* plr 1$", self.history())
+        begun = self.summary()["main"]
         self.assertEqual(([int(one) for one in cuts], begun > 10**9), ([begun], True))
 
     def test_a_cut_that_begins_in_another_doesnt_end_it(self) -> None:

@@ -1,7 +1,5 @@
 """The content of a `hinge net` file: hosts, links, ways, and faults in the file."""
 
-from __future__ import annotations
-
 
 import pytest
 

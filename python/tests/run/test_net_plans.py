@@ -1,7 +1,5 @@
 """The meaning of a file for `hinge net`: lines of a plan, cuts, and the faults that a nemesis draws."""
 
-from __future__ import annotations
-
 import re
 from pathlib import Path
 

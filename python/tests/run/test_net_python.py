@@ -1,7 +1,5 @@
 """A net from Python: its start, changes during the run, and its end."""
 
-from __future__ import annotations
-
 import os
 import signal
 import socket
@@ -47,23 +45,17 @@ class InAFolder(WithFolder):
 class OfNets(InAFolder):
     def test_commands_on_hosts(self) -> None:
         net = self.two()
-        done = net.run(
-            "a",
-            "hostname; cat; echo $HINGE_HOST $X >&2; exit 3",
-            check=False,
-            input="said\n",
-            env={**os.environ, "X": "x"},
-            cwd=self.folder,
-        )
-        self.assertEqual((done.returncode, done.stdout, done.stderr), (3, "a\nsaid\n", "a x\n"))
-        self.assertEqual(net.run("b", ["sh", "-c", "pwd; printf '%s' \"$1\"", "sh", "a  b"], cwd="/").stdout, "/\na  b")
+        how = {"check": False, "input": "said\n", "env": {**os.environ, "X": "x"}, "cwd": self.folder}
+        done = net.run("a", "hostname; cat; echo $HINGE_HOST $X >&2; exit 3", **how)
+        assert (done.returncode, done.stdout, done.stderr) == (3, "a\nsaid\n", "a x\n")
+        assert net.run("b", ["sh", "-c", "pwd; printf '%s' \"$1\"", "sh", "a  b"], cwd="/").stdout == "/\na  b"
         with self.assertRaisesRegex(CommandFailed, "^a: echo out; false: status 1\nout$"):
             net.run("a", "echo out; false")
         self.assertRaises(subprocess.TimeoutExpired, net.run, "a", "sleep 100", timeout=0.5)
         self.assertRaisesRegex(CommandFailed, "no host of this net, which are a, b", net.run, "c", "true")
         net.run("a", f"{PING} b && {PING} {net.address('b')} && {PING} {net.address('a')}")
-        self.assertEqual([(way["from"], way["to"], way["came"]) for way in net.status()["ways"]], [("a", "b", 2), ("b", "a", 2)])
-        self.assertEqual((net.audit().split()[0], [way["came"] for way in net.status()["ways"]]), ("lawful", [2, 2]))
+        assert [(way["from"], way["to"], way["came"]) for way in net.status()["ways"]] == [("a", "b", 2), ("b", "a", 2)]
+        assert (net.audit().split()[0], [way["came"] for way in net.status()["ways"]]) == ("lawful", [2, 2])
 
     def test_what_is_between_links(self) -> None:
         if subprocess.run([sys.executable, "-c", "import numpy"], capture_output=True).returncode:
@@ -73,10 +65,10 @@ class OfNets(InAFolder):
         net.router("r")
         net.link("a", "r"), net.link("r", "c", "3ms")
         net.run("a", f"{PING} c")
-        self.assertEqual([(way["pipe"], way["came"]) for way in net.status()["ways"]], [(1, 1), (2, 1), (3, 1), (4, 1)])
-        self.assertEqual(net.paths(), "lawful between links")
+        assert [(way["pipe"], way["came"]) for way in net.status()["ways"]] == [(1, 1), (2, 1), (3, 1), (4, 1)]
+        assert net.paths() == "lawful between links"
         lines = [line.split(",")[-1] for line in net.history.read_text().splitlines() if line.startswith("c,0,configure")]
-        self.assertEqual(lines, [f"pipe {pipe} config delay {delay}" for pipe, delay in ((1, 1), (2, 2), (3, 3), (4, 3))])
+        assert lines == [f"pipe {pipe} config delay {delay}" for pipe, delay in ((1, 1), (2, 2), (3, 3), (4, 3))]
 
     def test_a_partition_and_its_end(self) -> None:
         net = self.two()
@@ -90,25 +82,24 @@ class OfNets(InAFolder):
         ):
             change()
             pings.append(net.run("a", f"{PING} b", check=False).returncode)
-        self.assertEqual(pings, [1, 0, 1, 1, 0])
-        self.assertEqual(
-            [one.line for one in net.obeyed],
+        assert pings == [1, 0, 1, 1, 0]
+        assert [one.line for one in net.obeyed] == (
             [f"pipe {pipe} config delay {words}" for words in ("5 plr 1", "5", "5 plr 1") for pipe in (1, 2)]
-            + [f"pipe {pipe} config delay {7 + pipe}{loss}" for loss in (" plr 1", "") for pipe in (1, 2)],
+            + [f"pipe {pipe} config delay {7 + pipe}{loss}" for loss in (" plr 1", "") for pipe in (1, 2)]
         )
-        self.assertEqual(net.audit().split()[0], "lawful")
-        self.assertEqual([way["lost"] for way in net.status()["ways"]], [3, 0])
+        assert net.audit().split()[0] == "lawful"
+        assert [way["lost"] for way in net.status()["ways"]] == [3, 0]
 
     def test_a_change_in_a_cut_holds_after_it(self) -> None:
         net = self.two()
         net.cut("a", "2s")
         cut, told = net.obeyed[1], net.change("a", "b", "9ms")
-        self.assertEqual([one.line for one in told], [f"pipe {pipe} config delay 9 plr 1" for pipe in (1, 2)])
+        assert [one.line for one in told] == [f"pipe {pipe} config delay 9 plr 1" for pipe in (1, 2)]
         until(lambda: net.run("a", PING + " b", check=False).returncode == 0)
-        self.assertGreaterEqual(net.status()["moment"] / 1e9, cut.seconds)
+        assert net.status()["moment"] / 1e9 >= cut.seconds
         net.end()
         lines = [line.split(",")[-1] for line in net.history.read_text().splitlines() if line.startswith("c,0,configure,pipe 1")]
-        self.assertEqual(lines[-2:], ["pipe 1 config delay 9 plr 1", "pipe 1 config delay 9"])
+        assert lines[-2:] == ["pipe 1 config delay 9 plr 1", "pipe 1 config delay 9"]
 
     def test_a_port_is_waited_for(self) -> None:
         net = self.net()
@@ -116,9 +107,9 @@ class OfNets(InAFolder):
         net.host("b")
         net.link("a", "b", preset="dsl")
         net.start()
-        self.assertEqual(net.output("a"), "listens\n")
+        assert net.output("a") == "listens\n"
         net.end()
-        self.assertIn("c,0,configure,pipe 1 config bw 384000bit/s delay 25 queue 10\n", net.history.read_text())
+        assert "c,0,configure,pipe 1 config bw 384000bit/s delay 25 queue 10\n" in net.history.read_text()
 
     def test_a_port_that_nobody_serves(self) -> None:
         for command, wanted in (
@@ -131,9 +122,8 @@ class OfNets(InAFolder):
             net.link("a", "b")
             with self.assertRaises(NetError) as refused:
                 net.start()
-            self.assertEqual(str(refused.exception), wanted)
-            assert net.process
-            self.assertIsNotNone(net.process.poll())
+            assert str(refused.exception) == wanted
+            assert net.process.poll() is not None
 
     def test_what_is_refused(self) -> None:
         net = self.two()
@@ -156,20 +146,20 @@ class OfNets(InAFolder):
         with socket.socket(socket.AF_UNIX) as left:
             (self.folder / "net").mkdir()
             left.bind(str(self.folder / "net" / "control"))
-        self.assertEqual(self.two().run("a", "hostname").stdout, "a\n")
+        assert self.two().run("a", "hostname").stdout == "a\n"
 
     def test_a_folder_of_any_length_and_none(self) -> None:
         net = Net(self.folder.joinpath(*["long" * 20] * 3))
         net.host("a"), net.host("b"), net.link("a", "b", "1ms")
-        self.assertEqual(net.run("a", "hostname").stdout, "a\n")
+        assert net.run("a", "hostname").stdout == "a\n"
         net.close()
-        self.assertTrue(net.history.exists())
+        assert net.history.exists()
         with Net() as net:
             net.describe("host a\nmain b echo here\nlink a b\n")
             net.start()
             until(lambda: net.output("b") == "here\n")
             folder = net.folder
-        self.assertFalse(folder.exists())
+        assert not folder.exists()
 
     @needs("pgrep", "setsid")
     def test_the_end_of_its_caller_leaves_nothing(self) -> None:
@@ -182,8 +172,7 @@ class OfNets(InAFolder):
                 stderr=subprocess.DEVNULL,
                 text=True,
             )
-            assert caller.stdout
-            self.assertEqual(caller.stdout.readline(), "begun\n")
+            assert caller.stdout.readline() == "begun\n"
             until(lambda: len(matching("-f", f"^sleep {mark}")) == 3)
             caller.send_signal(number)
             caller.communicate(timeout=60)

@@ -1,15 +1,14 @@
-"""`hinge net`: forwarding hosts, routes and groups for routing daemons, names of both families, and a link's MTU."""
-
-from __future__ import annotations
+"""`hinge net`: forwarding hosts, routes and groups for routing daemons, names of both families, and a link's MTU; and requests to the
+kernel through rtnetlink: routes in a few messages on one socket, in a separate network."""
 
 import os
+import subprocess
 import sys
 import unittest
 from pathlib import Path
 
-from linked import found, hinge, needs, needs_rooms
-
 from in_a_folder import InAFolder
+from linked import found, hinge, needs, needs_rooms
 
 EXAMPLE = Path(__file__).resolve().parents[3] / "examples" / "net" / "ospf.net"
 PING = "ping -c 1 -W 5 -q"
@@ -52,14 +51,12 @@ class OfRoutes(InAFolder):
         assert done.stderr.splitlines()[0] == "hinge net: c has no way to a: r hands nothing on; write router r"
 
     def test_what_a_router_rightly_doesnt_forward(self) -> None:
-        """No route exists, or the packet is too long and its sender learns this, or the router rejects the packet. A new
-        interface of the router's program forwards too.
-        """
+        """No route exists, or the packet is too long and its sender learns this, or the router rejects the packet. A new interface
+        of the router's program forwards too."""
         done = self.logged(
             "host b\nrouter r ip route add unreachable 10.78.0.0/24; ip tuntap add own mode tun; cat /proc/sys/net/ipv4/conf/own/forwarding; exec sleep 1000\n"
             "main a ip route add 10.77.0.0/24 dev to-r; ping -q -c 3 -i 0.2 -W 1 10.77.0.1; ping -q -c 2 -i 0.2 -W 1 -M do -s 1400 b;"
-            " ip route add 10.78.0.0/24 dev to-r; ping -q -c 3 -i 0.2 -W 1 10.78.0.1\n"
-            "link a r 1ms\nlink r b 1ms\nmtu r b 1300\n"
+            " ip route add 10.78.0.0/24 dev to-r; ping -q -c 3 -i 0.2 -W 1 10.78.0.1\nlink a r 1ms\nlink r b 1ms\nmtu r b 1300\n"
         )
         assert self.summary()["unforwarded"] == {"r": {"IpInNoRoutes": 3, "IpFragFails": 1}}, done.stderr
         assert "r: 4 packets weren't forwarded (IpInNoRoutes 3, IpFragFails 1)\n" in done.stderr
@@ -95,7 +92,9 @@ class OfRoutes(InAFolder):
 
     def test_members_of_a_group(self) -> None:
         """The kernel itself sends no message, not even for routers, and only the member's host reports the group."""
-        member, asker, log = self.script("member.py", MEMBER), self.script("asker.py", ASKER), self.logs / "a.log"
+        member = self.script("member.py", MEMBER)
+        asker = self.script("asker.py", ASKER)
+        log = self.logs / "a.log"
         done = self.logged(
             f"host a exec {member}\nrouter r\nmain c until grep -qs on {log}; do sleep 0.01; done; exec {asker}\n"
             "link c a 1ms\nlink r c 1ms\n"
@@ -154,3 +153,45 @@ class OfOspf(InAFolder):
         self.assert_lawful()
         paths = hinge("look", self.folder / "out").stdout.splitlines()
         assert any(path.startswith("r4 - r3 - r2 - r1: ") for path in paths), paths
+
+
+SCRIPT = """
+import socket, sys
+from hinge.run import rtnetlink
+from hinge.run.interfaces import interface_route, set_up
+
+class Counted(socket.socket):
+    made, sent = 0, 0
+    def __init__(self, *words):
+        super().__init__(*words)
+        Counted.made += 1
+    def send(self, data):
+        Counted.sent += 1
+        return super().send(data)
+
+rtnetlink.socket.socket = Counted
+set_up("lo")
+Counted.made = Counted.sent = 0
+with rtnetlink.one_socket():
+    lo = rtnetlink.index_of("lo")
+    routes = [interface_route(f"10.8.{place >> 8}.{place & 255}", lo, "127.0.0.1") for place in range(1000)]
+    routes[500:500] = [interface_route("fd08::1", lo, "fd08::2", may_fail=True)] * 200  # a source that nobody has
+    rtnetlink.ask_many(routes)
+print(Counted.made, Counted.sent <= 20, len(list(open("/proc/net/route"))) - 1)
+for refused in (interface_route("10.9.0.1", lo, "10.1.1.1"), interface_route("10.9.0.1", 77, "127.0.0.1")):
+    try:
+        rtnetlink.ask_many([refused, interface_route("10.9.0.2", lo, "127.0.0.1")])
+    except OSError as error:
+        print(error.strerror)
+try:
+    rtnetlink.index_of("eth9")
+except OSError as error:
+    print(error.strerror)
+"""
+
+
+@needs_rooms
+@needs("unshare")
+def test_many_routes_take_one_socket() -> None:
+    done = subprocess.run(["unshare", "-rn", sys.executable, "-c", SCRIPT], capture_output=True, text=True, timeout=60)
+    assert done.stdout.splitlines() == ["1 True 1000", "Invalid argument", "No such device", "No such device"], done.stderr

@@ -1,7 +1,5 @@
 """`hinge net`: a switch forwards packets to groups and broadcasts unchanged, to each other link."""
 
-from __future__ import annotations
-
 import os
 import unittest
 
@@ -160,7 +158,8 @@ class OfSwitches(InAFolder):
 
     def test_a_member_gets_the_packet_as_it_was_sent(self) -> None:
         """The checksum and the time to live are unchanged."""
-        receiver, log = self.script("receiver.py", RECEIVER), self.logs / "a.log"
+        receiver = self.script("receiver.py", RECEIVER)
+        log = self.logs / "a.log"
         sender = self.script("sender.py", SENDER.replace("bytes(place)", "b'question'").replace(", 9))", ", 5353))"))
         done = self.logged(
             f"host a exec {receiver}\nmain c until grep -qs on {log}; do sleep 0.01; done; {sender}; until grep -qs question"
@@ -169,7 +168,8 @@ class OfSwitches(InAFolder):
         self.assertEqual((done.returncode, log.read_text()), (0, "on\nquestion 1\n"), done.stderr)
 
     def test_a_tag_arrives_and_no_frame_ends_the_net(self) -> None:
-        receiver, log = self.script("untagged.py", UNTAGGED), self.logs / "a.log"
+        receiver = self.script("untagged.py", UNTAGGED)
+        log = self.logs / "a.log"
         done = self.logged(
             f"host a exec {receiver}\nmain c until grep -qs on {log}; do sleep 0.01; done; {self.script('tagged.py', TAGGED)} && until"
             f" grep -q 0x8100 {log}; do sleep 0.01; done; {PING} a\nswitch s a c 1ms\n"

@@ -1,7 +1,5 @@
 """The host with a recorded trace and with outages: each packet leaves at its moment, whatever its length."""
 
-from __future__ import annotations
-
 import random
 import socket
 import time
@@ -48,9 +46,10 @@ def opportunities(moments: list[int]) -> Iterator[int]:
 
 def by_opportunities(packets: list[Passage], moments: list[int]) -> list[int]:
     """Returns each packet's moment of leaving: each opportunity carries this many bytes of the waiting packets, and what nobody
-    uses is lost.
-    """
-    left, waiting, coming = [], deque[list[int]](), deque(packets)
+    uses is lost."""
+    left = []
+    waiting = deque[list[int]]()
+    coming = deque(packets)
     for moment in opportunities(moments):
         while coming and coming[0][0] <= moment:
             waiting.append([coming.popleft()[1]])
@@ -77,9 +76,8 @@ class OfTraces(unittest.TestCase):
         return passages(ended.history)
 
     def close(self, told: list[Passage], moments: list[int]) -> None:
-        """Asserts that moments agree: a rate is in whole bit/s, so that a packet ends some ns late and never early, and one
-        that shares a moment takes 1 ns or more.
-        """
+        """Asserts that moments agree: a rate is in whole bit/s, so that a packet ends some ns late and never early, and one that
+        shares a moment takes 1 ns or more."""
         wanted = by_opportunities(told, moments)
         self.assertEqual(len(wanted), len(told))
         for (_, length, start, due), moment in zip(told, wanted):
@@ -125,9 +123,8 @@ class OfTraces(unittest.TestCase):
 @needs_host
 class OfOutages(unittest.TestCase):
     def test_nothing_leaves_in_an_outage_whatever_the_length_of_packets(self) -> None:
-        """Packets that start in an outage leave at its end, as exactly as a rate in whole bit/s allows. The outage begins with
-        or without waiting packets.
-        """
+        """Packets that start in an outage leave at its end, as exactly as a rate in whole bit/s allows. The outage begins with or
+        without waiting packets."""
         begin, end = 100 * MS, 350 * MS
         for size in (40, 100, 800, 1200, 1500):
             for greedy in (True, False):

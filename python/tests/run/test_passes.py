@@ -1,7 +1,5 @@
 """Jitter and duplicates: a second pass through a pipe with a drawn delay, and a second submission."""
 
-from __future__ import annotations
-
 import shutil
 import tempfile
 import unittest
@@ -77,11 +75,11 @@ class OfPasses(unittest.TestCase):
     def test_a_copy_is_a_second_submit(self) -> None:
         wanted = [number for number in range(COUNT) for _ in range(1 + (word(9, number + 1, 1 + OF_COPIES) < CERTAIN // 4))]
         assert COUNT < len(wanted) < 2 * COUNT
-        _, way = self.sent(f"line pipe 1 config delay 3\ncopies 0 {CERTAIN // 4} 9\n", wanted)
+        _, way = self.sent(f"line pipe 1 config delay 3\nduplicate 0 {CERTAIN // 4} 9\n", wanted)
         assert (way["came"], way["came_bytes"], way["sent"], way.underway) == (len(wanted), 100 * len(wanted), len(wanted), 0)
 
     def test_copies_draw_losses_of_their_own(self) -> None:
-        link = Linked(f"{SEEDS}line pipe 1 config plr 0.5\ncopies 0 {CERTAIN} 9\n")
+        link = Linked(f"{SEEDS}line pipe 1 config plr 0.5\nduplicate 0 {CERTAIN} 9\n")
         for number in range(COUNT):
             link.near.send(udp(number))
         until(lambda: link.came() == 2 * COUNT)
@@ -90,10 +88,11 @@ class OfPasses(unittest.TestCase):
 
     def test_a_bit_is_flipped_behind_the_last_pass(self) -> None:
         """The fault counts packets that leave, and skips a packet without a byte behind its header."""
-        link = Linked(f"{SEEDS}line pipe 1 config\nline pipe {FIRST} config\njitter 0 {FIRST} 1 7\ncorruption 0 {CERTAIN // 4} 7\n")
+        link = Linked(f"{SEEDS}line pipe 1 config\nline pipe {FIRST} config\njitter 0 {FIRST} 1 7\ncorrupt 0 {CERTAIN // 4} 7\n")
         wanted, got = [udp(0)[:20]], list[bytes]()
         for number in range(1, COUNT):
-            packet, bit = bytearray(udp(number)), word(7, number + 1, 1 + OF_BITS) % 640
+            packet = bytearray(udp(number))
+            bit = word(7, number + 1, 1 + OF_BITS) % 640
             packet[-1 - bit // 8] ^= (word(7, number + 1, 1 + OF_CORRUPTION) < CERTAIN // 4) << bit % 8
             wanted.append(bytes(packet))
         for number in range(COUNT):
@@ -107,7 +106,7 @@ class OfPasses(unittest.TestCase):
 
     def test_a_second_pipe_that_was_deleted(self) -> None:
         link = Linked(
-            f"{SEEDS}line pipe 1 config delay 20\nline pipe {FIRST} config\njitter 0 {FIRST} 1 7\nat 0 pipe delete" f" {FIRST}\n"
+            f"{SEEDS}line pipe 1 config delay 20\nline pipe {FIRST} config\njitter 0 {FIRST} 1 7\nat 0 pipe delete {FIRST}\n"
         )
         link.near.send(udp(1))
         until(lambda: link.page.read().ways[0]["no_target"] == 1)
@@ -139,10 +138,10 @@ class OfWords(unittest.TestCase):
             "line pipe 65531 config",
             "line pipe 65532 config delay 1",
         ]
-        assert [line for line in told if line.startswith(("jitter", "copies"))] == [
+        assert [line for line in told if line.startswith(("jitter", "duplicate"))] == [
             "jitter 0 65533 3 7",
             "jitter 1 65531 2 7",
-            f"copies 1 {CERTAIN // 2} 7",
+            f"duplicate 1 {CERTAIN // 2} 7",
         ]
         with pytest.raises(Wrong, match="^pipe 65535 is needed for jitter or late packets, and is another's"):
             plan_words("--up", "jitter 2ms", "--line", "pipe 65535 config")

@@ -1,7 +1,5 @@
 """Words and files become a plan, without privileges or a host."""
 
-from __future__ import annotations
-
 import argparse
 import contextlib
 import io
@@ -24,7 +22,7 @@ from hinge.run.settings import LiveOptions, NetOptions, RunOptions
 from hinge.run.summary import cautions, line, void
 from hinge.run.transcripts import AUDITED, told
 from hinge.run.words import Wrong, duration
-from plan_files import OfFiles
+from net_files import OfFiles
 
 
 class Words(unittest.TestCase):
@@ -42,24 +40,15 @@ class Words(unittest.TestCase):
             shutil.rmtree(path.parent)
 
     def test_times(self) -> None:
-        self.assertEqual(
-            [duration(text) for text in ("5s", "600ms", "0.5", "2min")], [5 * 10**9, 6 * 10**8, 5 * 10**8, 120 * 10**9]
-        )
+        assert [duration(text) for text in ("5s", "600ms", "0.5", "2min")] == [5 * 10**9, 6 * 10**8, 5 * 10**8, 120 * 10**9]
         for text in ("x", "5 s", "-1s", "1e3s", "9999999h", ""):
             self.assertRaises(Wrong, duration, text)
 
     def test_rules_that_are_wrong(self) -> None:
         plan = Plan()
         plan.link("pipe 1 config")
-        for rule in (
-            "tcp",
-            "=> queue x",
-            "tcp => queue 1",
-            "tcp port => pipe 1",
-            "foo => pipe 1",
-            "port 9-1 => pipe 1",
-            "dst 10.0.0.0/33 => pipe 1",
-        ):
+        rules = "tcp|=> queue x|tcp => queue 1|tcp port => pipe 1|foo => pipe 1|port 9-1 => pipe 1|dst 10.0.0.0/33 => pipe 1"
+        for rule in rules.split("|"):
             self.assertRaises(Wrong, plan.rule, rule)
 
     def test_losses_that_are_wrong(self) -> None:
@@ -69,7 +58,7 @@ class Words(unittest.TestCase):
     def test_shares_of_times(self) -> None:
         bins = [0] * BINS
         bins[3], bins[20], bins[40] = 98, 1, 1  # 3 us, 20 us, 48 to 49 us
-        self.assertEqual([Times(tuple(bins), 10**9).within(share) for share in (0.5, 0.99, 1)], [0.004, 0.021, 0.05])
+        assert [Times(tuple(bins), 10**9).within(share) for share in (0.5, 0.99, 1)] == [0.004, 0.021, 0.05]
 
 
 class OfOptions(OfFiles):
@@ -77,7 +66,7 @@ class OfOptions(OfFiles):
         """The options without a field print something and end."""
         for parser, kind, more in ((run.options(), RunOptions, {"more_files"}), (net.options(), NetOptions, {"command"})):
             named = {action.dest for action in parser._actions if action.default != argparse.SUPPRESS}
-            self.assertEqual(named | more, {name for one in kind.__mro__ for name in vars(one).get("__annotations__", ())})
+            assert named | more == {name for one in kind.__mro__ for name in vars(one).get("__annotations__", ())}
 
     def configured(self, *words: str) -> list[str]:
         return self.planned(*words).configured
@@ -88,17 +77,17 @@ class OfOptions(OfFiles):
         return plan_of(LiveOptions(**vars(parser.parse_args(words)), more_files=()), 1500)
 
     def test_the_order_of_lines(self) -> None:
-        """Queues can use the pipes of --up and --down, which precede lines that configure the same pipe; unnamed pipes are
-        open.
-        """
+        """Queues can use the pipes of --up and --down, which precede lines that configure the same pipe; unnamed pipes are open."""
         queue, up = "queue 1 config pipe 1 weight 3", "pipe 1 config bw 10Mbit/s"
-        self.assertEqual(self.configured("--line", queue, "--up", "10Mbit/s"), [up, queue, "pipe 2 config"])
+        assert self.configured("--line", queue, "--up", "10Mbit/s") == [up, queue, "pipe 2 config"]
         file = self.file(f"pipe 1 config delay 3\n{queue}  # of it\n")
-        self.assertEqual(
-            self.configured("--config", file, "--up", "10Mbit/s", "--down", "5ms"),
-            ["pipe 2 config delay 5ms", "pipe 1 config delay 3", queue, up],
-        )
-        self.assertEqual(self.configured("--line", queue), [queue, "pipe 1 config", "pipe 2 config"])
+        assert self.configured("--config", file, "--up", "10Mbit/s", "--down", "5ms") == [
+            "pipe 2 config delay 5ms",
+            "pipe 1 config delay 3",
+            queue,
+            up,
+        ]
+        assert self.configured("--line", queue) == [queue, "pipe 1 config", "pipe 2 config"]
 
     def test_a_loss_by_words_and_a_queue(self) -> None:
         rule = ("--map", "udp => queue 7", "--line")
@@ -123,15 +112,15 @@ class OfOptions(OfFiles):
 
     def test_a_preset_is_for_what_nothing_else_says(self) -> None:
         up, down = "pipe 1 config bw 384Kbit/s delay 25ms queue 10", "pipe 2 config bw 1500Kbit/s delay 25ms queue 30"
-        self.assertEqual(self.configured("--preset", "dsl"), [up, down])
-        self.assertEqual(self.configured("--preset", "dsl", "--up", "5ms"), ["pipe 1 config delay 5ms", down])
-        self.assertEqual(self.configured("--preset", "dsl", "--line", "pipe 2 config"), [up, "pipe 2 config"])
+        assert self.configured("--preset", "dsl") == [up, down]
+        assert self.configured("--preset", "dsl", "--up", "5ms") == ["pipe 1 config delay 5ms", down]
+        assert self.configured("--preset", "dsl", "--line", "pipe 2 config") == [up, "pipe 2 config"]
 
     def test_the_presets_are_printed(self) -> None:
         out = io.StringIO()
         with contextlib.redirect_stdout(out), self.assertRaises(SystemExit) as ended:
             self.configured("--list-presets")
-        self.assertEqual((ended.exception.code, out.getvalue().split()[:3]), (0, ["preset", "up", "down"]))
+        assert (ended.exception.code, out.getvalue().split()[:3]) == (0, ["preset", "up", "down"])
 
 
 class Cautions(unittest.TestCase):
@@ -146,25 +135,19 @@ class Cautions(unittest.TestCase):
     def test_a_run_that_was_late_by_a_part_of_its_least_delay(self) -> None:
         """A tenth of 1 ms is 100 us; bins end above their time."""
         plan = "line pipe 1 config bw 8000bit/s delay 20\nline pipe 2 config delay 1\nline pipe 3 config delay 0\n"
-        self.assertEqual(cautions(self.counts(30), [0, 0], plan), [])
-        self.assertEqual(
-            cautions(self.counts(30), [2, 0], plan),
-            [
-                "CAUTION, this machine was too busy: up: the system dropped 2 packets before the link and 0 behind it",
-                "--late 0.1ms makes such a run void",
-            ],
-        )
+        assert cautions(self.counts(30), [0, 0], plan) == []
+        assert cautions(self.counts(30), [2, 0], plan) == [
+            "CAUTION, this machine was too busy: up: the system dropped 2 packets before the link and 0 behind it",
+            "--late 0.1ms makes such a run void",
+        ]
         slow = self.counts(30)
         slow.ways[0].late = Times((*[0] * 135, 100, *[0] * (BINS - 136)), 3_000_000)
-        self.assertEqual(
-            cautions(slow, [0, 0], plan),
-            [
-                "CAUTION, this machine was too busy: up: the p99 of `late`, 3.000 ms, is above the limit of 0.1 ms",
-                "--late 0.1ms makes such a run void",
-            ],
-        )
-        self.assertEqual(cautions(slow, [0, 0], "line pipe 1 config delay 50\n"), [])
-        self.assertEqual(cautions(slow, [0, 0], "line pipe 1 config\n"), [])
+        assert cautions(slow, [0, 0], plan) == [
+            "CAUTION, this machine was too busy: up: the p99 of `late`, 3.000 ms, is above the limit of 0.1 ms",
+            "--late 0.1ms makes such a run void",
+        ]
+        assert cautions(slow, [0, 0], "line pipe 1 config delay 50\n") == []
+        assert cautions(slow, [0, 0], "line pipe 1 config\n") == []
 
     def test_a_stall_isnt_lost_among_many_packets(self) -> None:
         """One packet of a hundred thousand is 300 ms late, in a run of ten seconds or of a hundred."""
@@ -177,13 +160,13 @@ class Cautions(unittest.TestCase):
             unread[0], unread[242], unread_time[242] = 99_999, 1, 300_000_000
             head = [ENDED_WELL, seconds * 10**9, *[0] * (len(HEAD) - 2)]
             counts = Counts((*head, *values, *late, *unread, *late_time, *unread_time, *[0] * WAY))
-            self.assertEqual(void(counts, [0, 0], 5.0), wanted)
+            assert void(counts, [0, 0], 5.0) == wanted
 
     def test_a_good_run_is_one_line_without_lateness(self) -> None:
         wanted = "up: 100 came, 0 delivered, 0 lost, 0 met a full queue, 100 under way"
-        self.assertEqual(line(self.counts(3), [0, 0]), f"{wanted}; down: nothing came")
+        assert line(self.counts(3), [0, 0]) == f"{wanted}; down: nothing came"
         dropped = "the system dropped 2 before the link and 0 behind it"
-        self.assertEqual(line(self.counts(3), [0, 2]), f"{wanted}; down: nothing came, {dropped}")
+        assert line(self.counts(3), [0, 2]) == f"{wanted}; down: nothing came, {dropped}"
 
 
 class OfTranscripts(OfFiles):
@@ -191,19 +174,17 @@ class OfTranscripts(OfFiles):
         """If a file is too long for an immediate audit, the summary contains the command for one, and otherwise nothing."""
         path = self.file("dummynet-live,1\n#" + "x" * 100 + "\nend,0\n")
         with open(path, "r+b") as file:
-            self.assertEqual(list(told(path, 1)), [])
+            assert list(told(path, 1)) == []
             file.seek(AUDITED - 1)
             file.write(b"\n")
-        self.assertEqual(list(told(path, 1)), [])
+        assert list(told(path, 1)) == []
         with open(path, "ab") as file:
             file.write(b"\n")
         [line] = told(path, 1)
         size, command = AUDITED + 1, line.rpartition(": ")[2]
-        self.assertEqual(
-            (line.partition(",")[0], command), (f"{path} has {size} bytes", f"dummynet audit --most-history {size} {path}")
-        )
+        assert (line.partition(",")[0], command) == (f"{path} has {size} bytes", f"dummynet audit --most-history {size} {path}")
         refused, read = (
             subprocess.run([dummynet(), *words], capture_output=True, text=True) for words in (["audit", path], command.split()[1:])
         )
-        self.assertEqual((refused.stderr, refused.returncode), ("history too long\n", 6))
-        self.assertNotIn("too long", read.stderr)
+        assert (refused.stderr, refused.returncode) == ("history too long\n", 6)
+        assert "too long" not in read.stderr

@@ -1,11 +1,10 @@
 """`hinge run` in namespaces, on machines and for users that can create them."""
 
-from __future__ import annotations
-
 import contextlib
 import errno
 import json
 import os
+import re
 import shlex
 import shutil
 import signal
@@ -112,7 +111,8 @@ class OfCommands(WithFolder):
             assert "nothing came" in run("--up", words, "--", "true").stderr
 
     def test_names_that_are_not_utf8(self) -> None:
-        name, net = os.path.join(os.fsencode(self.folder), b"a \xff b"), self.folder / "x.net"
+        name = os.path.join(os.fsencode(self.folder), b"a \xff b")
+        net = self.folder / "x.net"
         assert run("--line", os.fsdecode(b"\xff"), "--", "true").returncode == 3
         done = run("--up", "1ms", "--transcript", os.fsdecode(name), "--", "true")
         assert (done.returncode, done.stderr.count("nothing came")) == (0, 2), done.stderr
@@ -190,6 +190,12 @@ class OfPings(WithFolder):
             assert (got.returncode, len(times)) == (0, 3), got.stderr
             assert min(times) >= 70
             audited_as_lawful(self, self.folder / name)
+
+    def test_a_line_each_second(self) -> None:
+        got = run("--watch", "--quiet", "--up", "10ms", "--", "ping", "-c", "11", "-i", "0.2", "server")
+        assert re.search(
+            r"^   1\.\d s  \| up       0\.00\d Mbit/s      \d in link    \d\d\.\d+ ms     0 dropped  \| down", got.stderr
+        )
 
     def test_late_makes_a_run_void(self) -> None:
         got = run("--late", "1ns", "--up", "1ms", "--", "ping", "-c", "2", "-i", "0.2", "server")

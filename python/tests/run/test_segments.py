@@ -1,7 +1,5 @@
 """The host between two sockets cuts large TCP packets like a network card, and joins packets. A header precedes each packet."""
 
-from __future__ import annotations
-
 import os
 import platform
 import socket
@@ -32,9 +30,7 @@ def summed(data: bytes) -> int:
 
 
 def tcp(ends: bytes, sequence: int, flags: int, data: bytes) -> bytes:
-    """Returns a TCP segment, with the sum to which a card adds the packet's own: of both addresses, the protocol and the
-    length.
-    """
+    """Returns a TCP segment, with the sum to which a card adds the packet's own: of both addresses, the protocol and the length."""
     length = 20 + len(TIMES) + len(data)
     begun = summed(ends + struct.pack("!HH", 6, length))
     return (
@@ -76,13 +72,12 @@ class OfSegments(unittest.TestCase):
         got = [link.far.recv(70000) for _ in range(expected)]
         ended = link.end()
         up = ended.counts.ways[0]
-        self.assertEqual((ended.status, up["came"], sum(up.unread.bins), sum(up.late.bins)), (0, *[expected] * 3))
+        assert (ended.status, up["came"], sum(up.unread.bins), sum(up.late.bins)) == (0, *[expected] * 3)
         return got, ended.history
 
     def test_each_packet_is_as_a_card_makes_it(self) -> None:
-        """The sequence number and the packet's identification continue, also past their greatest values. Only the last packet
-        has FIN and PUSH, and only the first CWR.
-        """
+        """The sequence number and the packet's identification continue, also past their greatest values. Only the last packet has
+        FIN and PUSH, and only the first CWR."""
         size, sequence, number = 1448, 2**32 - 2000, 2**16 - 2
         for build, kind, headers in ((in_ipv4, TCP4, 56), (in_ipv6, TCP6, 72)):
             for length in (size + 1, 3 * size, 40 * size + 7):
@@ -100,39 +95,37 @@ class OfSegments(unittest.TestCase):
                     for at in range(0, length, size)
                 ]
                 got, history = self.through([noted(whole, kind | ECN, size)], len(wanted))
-                self.assertEqual([NOTE.unpack(one[:10])[:4] for one in got], [(CHECKSUM, 0, 0, 0)] * len(wanted))
-                self.assertEqual(got, wanted)
-                self.assertEqual(
-                    found(r",40000,443,(\d+),", history),
-                    [str(headers + len(data[at : at + size])) for at in range(0, length, size)],
-                )
+                assert [NOTE.unpack(one[:10])[:4] for one in got] == [(CHECKSUM, 0, 0, 0)] * len(wanted)
+                assert got == wanted
+                assert found(r",40000,443,(\d+),", history) == [
+                    str(headers + len(data[at : at + size])) for at in range(0, length, size)
+                ]
 
     def test_segments_shorter_than_their_headers(self) -> None:
         data = os.urandom(1000)
         got, _ = self.through([noted(in_ipv4(5, ACK, data, 1), TCP4, 8)], 125)
-        self.assertEqual(got, [noted(in_ipv4(5 + at, ACK, data[at : at + 8], 1 + at // 8)) for at in range(0, 1000, 8)])
+        assert got == [noted(in_ipv4(5 + at, ACK, data[at : at + 8], 1 + at // 8)) for at in range(0, 1000, 8)]
 
     def test_what_is_not_to_be_cut_comes_as_it_is(self) -> None:
         """Packets with and without a header pass unchanged, among them a complete packet and one whose header doesn't fit."""
         data = os.urandom(3000)
         plain = NOTE.pack(0, 0, 0, 0, 0, 0) + ip4("10.8.0.1", "10.8.0.2", 17, 7, 8, 60000)
-        small, odd = noted(in_ipv4(1, ACK, b"x", 9)), NOTE.pack(CHECKSUM, TCP4, 0, 1448, 65000, TCP_CHECKSUM) + in_ipv4(
-            1, ACK, b"x", 9
-        )
+        small = noted(in_ipv4(1, ACK, b"x", 9))
+        odd = NOTE.pack(CHECKSUM, TCP4, 0, 1448, 65000, TCP_CHECKSUM) + in_ipv4(1, ACK, b"x", 9)
         sent = [plain, small, noted(in_ipv4(0, ACK, data, 3), TCP4, 1500), small, odd, plain]
         got, _ = self.through(sent, 7)
         cut = [noted(in_ipv4(at, ACK, data[at : at + 1500], 3 + at // 1500)) for at in (0, 1500)]
-        self.assertEqual(got, [plain, small, *cut, small, odd, plain])
+        assert got == [plain, small, *cut, small, odd, plain]
 
     def test_a_flipped_bit_is_behind_a_whole_checksum(self) -> None:
         """The host first completes the card's checksum, or a receiver would believe it. A packet of odd length counts as padded
-        with 0.
-        """
+        with 0."""
         sent = [build(at, ACK, os.urandom(999 + at % 2), at) for at in range(20) for build in (in_ipv4, in_ipv6)]
-        link = Linked(f"{SEEDS}line pipe 1 config\ncorruption 0 {2**31} 9\n", carrier="tun")
+        link = Linked(f"{SEEDS}line pipe 1 config\ncorrupt 0 {2**31} 9\n", carrier="tun")
         for number, packet in enumerate(sent, 1):
             link.near.send(noted(packet))
-            got, header = link.far.recv(70000), 24 if packet[0] >> 4 == 4 else 40
+            got = link.far.recv(70000)
+            header = 24 if packet[0] >> 4 == 4 else 40
             bits = 8 * (len(packet) - header)
             bit = word(9, number, 1 + OF_BITS) % bits
             whole = bytearray(got[10:])
@@ -181,13 +174,15 @@ class OfJoins(unittest.TestCase):
             got.append(link.far.recv(70000))
             length -= len(got[-1]) - 10 - (20 if got[-1][10] >> 4 == 4 else 40) - headers
         ended = link.end()
-        self.assertEqual(ended.counts.ways[0]["sent"], packets)
+        assert ended.counts.ways[0]["sent"] == packets
         return got
 
     def test_they_are_cut_again_as_they_were(self) -> None:
         """A busy machine decides how many packets share a write. Another link forwards the card's original packets."""
         for build, kind in ((bare_ipv4, TCP4), (in_ipv6, TCP6)):
-            data, first, start = os.urandom(3 * 1448 + 7), 2**32 - 3000, 20 if kind == TCP4 else 40
+            data = os.urandom(3 * 1448 + 7)
+            first = 2**32 - 3000
+            start = 20 if kind == TCP4 else 40
 
             def built(at: int, end: int) -> bytes:
                 return build(first + at, ACK | PUSH * (end == len(data)), data[at:end], 2**16 - 2 + at // 1448)
@@ -199,16 +194,16 @@ class OfJoins(unittest.TestCase):
                     end = at + len(one) - 10 - start - 32
                     joined += end > at + 1448
                     note = (CHECKSUM, kind, start + 32, 1448) if end > at + 1448 else (CHECKSUM, 0, 0, 0)
-                    self.assertEqual((NOTE.unpack(one[:10]), one[10:]), ((*note, start, TCP_CHECKSUM), built(at, end)))
+                    assert (NOTE.unpack(one[:10]), one[10:]) == ((*note, start, TCP_CHECKSUM), built(at, end))
                     at = end
-                self.assertGreater(joined, 0)
+                assert joined > 0
 
     def test_those_that_do_not_follow_are_not_joined(self) -> None:
         """A different port, place, number, time to live, time stamp or flag, a longer segment, or a segment after a PUSH or a short
         segment."""
         data = os.urandom(1448)
         first, good = bare_ipv4(0, ACK, data, 1), bare_ipv4(1448, ACK, data, 2)
-        self.assertEqual(len(self.writes([of_card(first), of_card(good)], 2896, 2)), 1)
+        assert len(self.writes([of_card(first), of_card(good)], 2896, 2)) == 1
         stamped = good[: 52 - 1] + bytes([good[51] ^ 1]) + good[52:]
         others = [
             bare_ipv4(1449, ACK, data, 2),
@@ -220,23 +215,23 @@ class OfJoins(unittest.TestCase):
             bare_ipv4(1448, ACK, data + b"x", 2),
         ]
         for other in others:
-            self.assertEqual(self.writes([of_card(first), of_card(other)], 2896, 2), [of_card(first), of_card(other)])
+            assert self.writes([of_card(first), of_card(other)], 2896, 2) == [of_card(first), of_card(other)]
         # of the second 448 bytes are lost
         shorter, lacking = bare_ipv4(1448, ACK, data[:1000], 2), bare_ipv4(2896, ACK, data, 3)
-        self.assertEqual(len(self.writes([of_card(one) for one in (first, shorter, lacking)], 3896, 3)), 2)
+        assert len(self.writes([of_card(one) for one in (first, shorter, lacking)], 3896, 3)) == 2
         for before in (bare_ipv4(0, ACK | PUSH, data, 1), bare_ipv4(1, ACK, data[1:], 1)):
-            self.assertEqual(len(self.writes([of_card(before), of_card(good)], 2895, 2)), 2)
+            assert len(self.writes([of_card(before), of_card(good)], 2895, 2)) == 2
 
     @unittest.skipIf(tuple(map(int, platform.release().split(".")[:2])) < (6, 2), "an older system takes them one by one")
     def test_datagrams_of_one_length_from_one_socket_to_another(self) -> None:
         data = os.urandom(260)
         for ends in (ENDS, ENDS_OF_6):
             sent = [datagram(2**16 - 1 + at // 100, data[at : at + 100], ends) for at in (0, 100, 200)]
-            self.assertEqual(self.writes(sent, 260, 3, 8), [datagram(2**16 - 1, data, ends, UDP, 100)])
+            assert self.writes(sent, 260, 3, 8) == [datagram(2**16 - 1, data, ends, UDP, 100)]
             others = datagram(0, data[:101], ends), datagram(0, data[:100], ends[:-1] + b"\x03"), bytes(10) + sent[1][10:]
             for other in others:
-                self.assertEqual(self.writes([sent[0], other], 200, 2, 8), [sent[0], other])
-        self.assertEqual(len(self.writes([datagram(1, data, ENDS), datagram(3, data, ENDS)], 520, 2, 8)), 2)
+                assert self.writes([sent[0], other], 200, 2, 8) == [sent[0], other]
+        assert len(self.writes([datagram(1, data, ENDS), datagram(3, data, ENDS)], 520, 2, 8)) == 2
 
     def test_those_of_two_links_are_not_joined(self) -> None:
         data = os.urandom(1448)
@@ -248,5 +243,5 @@ class OfJoins(unittest.TestCase):
         until(lambda: link.page.read().ways[2]["came"] == 1)
         with stopped(link.process.pid):
             time.sleep(0.05)
-        self.assertEqual([link.ends[1].recv(70000), link.ends[3].recv(70000)], sent)
+        assert [link.ends[1].recv(70000), link.ends[3].recv(70000)] == sent
         link.end()

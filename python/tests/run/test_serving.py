@@ -1,13 +1,10 @@
 """The server of the control socket and its messages, in this process, without a run."""
 
-from __future__ import annotations
-
 import contextlib
 import errno
 import os
 import socket
 import threading
-import unittest
 from unittest import mock
 
 from linked import until
@@ -20,12 +17,11 @@ from hinge.border.serving import LEFT, MOST_CLIENTS, SHORT, Answer as Outcome, S
 from hinge.run.words import Wrong
 
 
-class OfMessages(unittest.TestCase):
-    def test_each_comes_back(self) -> None:
-        for message in (Order(3, change="up 1ms"), Order(status=True), Order(end=True), Reply(3, refused="")):
-            self.assertEqual(read_message(type(message), line_of(message)), message)
-        told = read_message(Reply, b'{"told": [{"moment": 1, "line": "pipe 1 config"}]}').told
-        self.assertEqual([(one.moment, one.line, one.refused) for one in told or []], [(1, "pipe 1 config", "")])
+def test_each_comes_back() -> None:
+    for message in (Order(3, change="up 1ms"), Order(status=True), Order(end=True), Reply(3, refused="")):
+        assert read_message(type(message), line_of(message)) == message
+    told = read_message(Reply, b'{"told": [{"moment": 1, "line": "pipe 1 config"}]}').told
+    assert [(one.moment, one.line, one.refused) for one in told or []] == [(1, "pipe 1 config", "")]
 
 
 class OfServers(WithFolder):
@@ -47,16 +43,7 @@ class OfServers(WithFolder):
     def test_no_refusal_of_the_system_ends_it(self) -> None:
         for call in ("accept", "recv", "send"):
             usual = getattr(socket.socket, call)
-            for number in (
-                *SHORT,
-                errno.ECONNABORTED,
-                errno.EINTR,
-                errno.EPERM,
-                errno.EPROTO,
-                errno.EPIPE,
-                errno.EIO,
-                errno.ECONNRESET,
-            ):
+            for number in (*SHORT, *map(errno.__dict__.get, "ECONNABORTED EINTR EPERM EPROTO EPIPE EIO ECONNRESET".split())):
                 left = [OSError(number, ""), MemoryError()]
 
                 def refused(line: socket.socket, *rest: object) -> object:
@@ -70,7 +57,9 @@ class OfServers(WithFolder):
 
     def test_of_runs_that_find_one_dead_socket_one_has_it(self) -> None:
         """The test also lets a socket that isn't a run's take the name after the old one was found dead."""
-        usual, finds, other = serving.reached, iter((True,)), str(self.folder / "other")
+        usual = serving.reached
+        finds = iter((True,))
+        other = str(self.folder / "other")
 
         def reached(path: str) -> int:
             result = usual(path)

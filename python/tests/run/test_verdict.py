@@ -1,7 +1,5 @@
 """Causes beside the links that make a net's run void: late acts, waits for a processor, and a machine that slept."""
 
-from __future__ import annotations
-
 import re
 import time
 import unittest
@@ -11,7 +9,7 @@ from linked import needs_rooms, run
 
 from hinge.events.forms import WORDS
 from hinge.events.idle import idle_events
-from hinge.events.kinds import Act, Moment
+from hinge.events.kinds import PlannedAct, Moment
 from hinge.net.acts import Done
 from hinge.net.description import read_description
 from hinge.net.net_plan import NetPlan
@@ -26,7 +24,7 @@ MS = 10**6
 
 def done(word: str, asked: int, late: float, of_main: bool = True) -> Done:
     """Returns an act that was due this many ms after the main command's start at 1 s."""
-    return Done(round((asked + late + 1000 * of_main) * MS), Act(Moment(asked * MS, of_main, ""), word, "a"))
+    return Done(round((asked + late + 1000 * of_main) * MS), PlannedAct(Moment(asked * MS, of_main, ""), word, "a"))
 
 
 def ran(*came: int) -> Counts:
@@ -48,18 +46,17 @@ class OfActs(unittest.TestCase):
         self.assertEqual([*late_acts(acts, 1000 * MS, 20)], ["`kill a` came behind `stop a`, which was to come 10 ms later"])
 
 
-class OfWhatNeverCame(unittest.TestCase):
-    def test_moments_and_packets(self) -> None:
-        awaited = Awaited([(1000 * MS, "1s up 5ms"), (1001 * MS, "1.001s up 6ms")], [(0, 5), (0, 6), (1, 1)])
-        wanted = ["not yet when the run ended: `1.001s up 6ms`", "chosen, but never came: packet 6 of up, packet 1 of down"]
-        self.assertEqual([*awaited.missed(ran(5, 0), NAMES)], wanted)
-        self.assertEqual([*awaited.missed(ran(6, 0), NAMES)], [wanted[0], "chosen, but never came: packet 1 of down"])
-        self.assertEqual([*Awaited(awaited.moments[:1], [(0, 5)]).missed(ran(5, 0), NAMES)], [])
-        many = Awaited([(2000 * MS, f"{second}s down 1ms") for second in range(2, 9)])
-        self.assertRegex([*many.missed(ran(5, 0), NAMES)][0], "`5s down 1ms` and 3 more$")
-        for limit, void_lines, warnings in ((20.0, wanted, []), (None, [], [f"CAUTION, {line}" for line in wanted])):
-            told = verdict(ran(5, 0), [0, 0], "", limit, lambda _: [], awaited=awaited)
-            self.assertEqual((told.void, told.cautions), (void_lines, warnings))
+def test_moments_and_packets() -> None:
+    awaited = Awaited([(1000 * MS, "1s up 5ms"), (1001 * MS, "1.001s up 6ms")], [(0, 5), (0, 6), (1, 1)])
+    wanted = ["not yet when the run ended: `1.001s up 6ms`", "chosen, but never came: packet 6 of up, packet 1 of down"]
+    assert [*awaited.missed(ran(5, 0), NAMES)] == wanted
+    assert [*awaited.missed(ran(6, 0), NAMES)] == [wanted[0], "chosen, but never came: packet 1 of down"]
+    assert [*Awaited(awaited.moments[:1], [(0, 5)]).missed(ran(5, 0), NAMES)] == []
+    many = Awaited([(2000 * MS, f"{second}s down 1ms") for second in range(2, 9)])
+    assert re.search("`5s down 1ms` and 3 more$", [*many.missed(ran(5, 0), NAMES)][0])
+    for limit, void_lines, warnings in ((20.0, wanted, []), (None, [], [f"CAUTION, {line}" for line in wanted])):
+        told = verdict(ran(5, 0), [0, 0], "", limit, lambda _: [], awaited=awaited)
+        assert (told.void, told.cautions) == (void_lines, warnings)
 
 
 class OfIdleEvents(InAFolder):
@@ -98,7 +95,7 @@ class OfIdleEvents(InAFolder):
             ("1s kill a 3s", "start+2s kill a 1s", False),  # whose moments can't be compared
         ):
             first, second = one.split(" ", 1)[1], other.split(" ", 1)[1]
-            self.assertEqual(self.idle(one, other), [f"{second} / {first}"] * is_idle, (one, other))
+            self.assertEqual(self.idle(one, other), [f"{second} / {first}"] if is_idle else [], (one, other))
 
     def test_faults_within_several_others(self) -> None:
         """Each pair of other faults leaves a gap, and of equal faults the first counts."""
@@ -111,15 +108,15 @@ class OfIdleEvents(InAFolder):
             ("1s cut a", "2s heal a", "3s cut a 1s", ""),
             ("1s cut a", "2s cut a", "3s heal a", "cut a / cut a"),
         ):
-            self.assertEqual(self.idle(first, second, third), [wanted] * bool(wanted), (first, second, third))
+            self.assertEqual(self.idle(first, second, third), [wanted] if wanted else [], (first, second, third))
 
     def test_no_word_is_silently_without_effect(self) -> None:
         """Each word names a host or link that doesn't exist, repeats another at its moment, or ends nothing: the kit refuses or
-        reports it.
-        """
+        reports it."""
         self.NET = f"{self.NET}disk a data\n"
-        begun = {"heal": "cut", "restart": "kill", "cont": "stop"}
-        of_hosts = [f"{word} a{' +2s' * (word == 'skew')}" for word in WORDS]
+        endings = {name: word.ending for name, word in WORDS.items()}
+        begun = {end: name for name, end in endings.items() if end}
+        of_hosts = [f"{word} a{' +2s' if word == 'skew' else ''}" for word in WORDS]
         self.assertRaisesRegex(Wrong, "'corrupt': of a whole run", self.idle, "1s a c 5ms corrupt 1%")
         for words in [*of_hosts, "a c outage 1s", "a c outage 1s lossy", "a c 6ms", "a c pipe 1 config delay 6"]:
             word = words.split()[0]
@@ -130,8 +127,8 @@ class OfIdleEvents(InAFolder):
             except Wrong as wrong:
                 told = re.findall("goes on then|leave one of them out", str(wrong))
             self.assertTrue(told, words)
-            for end, fault in begun.items():
-                if end != "restart" and fault != word:
+            for end in begun:
+                if WORDS[end].none and endings.get(word) != end:
                     self.assertRaisesRegex(Wrong, "goes on then", self.idle, f"1s {words}", f"2s {end} a")
 
     def test_what_ends_earlier_covers_nothing_behind(self) -> None:
@@ -197,18 +194,17 @@ class OfWaits(unittest.TestCase):
         self.assertIsNone(waited_of(2**22 + 1))
 
 
-class OfSleep(unittest.TestCase):
-    def test_a_machine_that_was_suspended(self) -> None:
-        numbers = (ENDED_WELL, *[0] * (len(HEAD) - 1), *[0] * 2 * WAY)
-        self.assertEqual(void(Counts(numbers, 9 * MS), [0, 0], None), [])
-        self.assertEqual(void(Counts(numbers, 1500 * MS), [0, 0], None), ["this machine was suspended for 1.500 s"])
-        begun = time.monotonic_ns()
-        page, clock = Page(), time.clock_gettime_ns
-        slept = page.read().slept
-        with mock.patch("time.clock_gettime_ns", lambda which: clock(which) + 3 * 10**9 * (which == time.CLOCK_BOOTTIME)):
-            more = page.read().slept - 3 * 10**9
-        awake, took = asleep(), time.monotonic_ns() - begun  # two readings of clocks are no longer apart
-        self.assertLessEqual(max(abs(slept), abs(more), -awake), took)
+def test_a_machine_that_was_suspended() -> None:
+    numbers = (ENDED_WELL, *[0] * (len(HEAD) - 1), *[0] * 2 * WAY)
+    assert void(Counts(numbers, 9 * MS), [0, 0], None) == []
+    assert void(Counts(numbers, 1500 * MS), [0, 0], None) == ["this machine was suspended for 1.500 s"]
+    begun = time.monotonic_ns()
+    page, clock = Page(), time.clock_gettime_ns
+    slept = page.read().slept
+    with mock.patch("time.clock_gettime_ns", lambda which: clock(which) + 3 * 10**9 * (which == time.CLOCK_BOOTTIME)):
+        more = page.read().slept - 3 * 10**9
+    awake, took = asleep(), time.monotonic_ns() - begun  # two readings of clocks are no longer apart
+    assert max(abs(slept), abs(more), -awake) <= took
 
 
 @needs_rooms

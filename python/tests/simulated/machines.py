@@ -1,6 +1,4 @@
-"""Commands in simulated time for all tests of this folder, and programs in C that are compiled once."""
-
-from __future__ import annotations
+"""Commands in simulated time for all tests of this folder, programs in C that are compiled once, and the packets of a transcript."""
 
 import json
 import os
@@ -11,9 +9,10 @@ import sys
 import tempfile
 import time
 import unittest
+from dataclasses import dataclass
 from functools import lru_cache
 from pathlib import Path
-from typing import Any, Callable, NamedTuple, TypeVar, Union
+from typing import Any, Callable, Iterator, NamedTuple, TypeVar, Union
 
 from hinge.program import dummynet
 from with_folder import WithFolder
@@ -79,7 +78,6 @@ class Simulated(WithFolder):
         """Starts a run in the test's folder with additional variables; returns after the run printed this line."""
         streams = {"stdin": subprocess.DEVNULL, "stdout": subprocess.PIPE, "stderr": subprocess.DEVNULL}
         process = subprocess.Popen([*SIMULATED, "--", *words], cwd=self.folder, env=environment(**more), text=True, **streams)
-        assert process.stdout
         self.assertEqual(process.stdout.readline(), f"{line}\n")
         return process
 
@@ -155,3 +153,52 @@ def probed(text: str) -> "list[int]":
 
 def environment(**names: str) -> "dict[str, str]":
     return {**os.environ, **names}
+
+
+@dataclass
+class Packet:
+    """A packet, with moments in ns. For a packet that was lost or met a full queue, start and due moment are 0."""
+
+    target: "tuple[str, int]"
+    size: int
+    came: int
+    fate: str
+    start: int = 0
+    due: int = 0
+
+
+def packets_of(history: str) -> "list[Packet]":
+    """Returns a transcript's packets in the order of their arrival."""
+    packets: list[Packet] = []
+    queued: dict[str, Packet] = {}
+    call = [""]
+    for line in history.splitlines():
+        words = line.split(",")
+        if words[0] == "c":
+            call = words
+        elif words[0] == "r" and call[2] == "submit":
+            packets.append(Packet((call[3], int(call[4])), int(call[10]), int(call[12]), words[1]))
+            if words[1] == "queued":
+                queued[words[4]] = packets[-1]
+        elif words[0] == "d":
+            queued[words[1]].start, queued[words[1]].due = int(words[3]), int(words[4])
+    return packets
+
+
+def served(packets: "list[Packet]", pipe: int) -> "list[Packet]":
+    """Returns the packets that a pipe served, in the order of their starts."""
+    found = [packet for packet in packets if packet.target == ("pipe", pipe) and packet.due]
+    return sorted(found, key=lambda packet: packet.start)
+
+
+def idle(packets: "list[Packet]", rate: int) -> "Iterator[int]":
+    """Returns how long a link of this bandwidth, in bit/s, was idle before each packet that it served, except before the first."""
+    for before, after in zip(packets, packets[1:]):
+        yield after.start - before.start - -(-before.size * 8 * 10**9 // rate)
+
+
+def shares_of(history: str, begin: int, end: int) -> "list[float]":
+    """Returns queue 1's share in each hundred packets of 1,500 bytes that start between two moments."""
+    found = [packet for packet in packets_of(history) if packet.size == 1500 and begin < packet.start < end]
+    order = [packet.target for packet in sorted(found, key=lambda packet: packet.start)]
+    return [order[at : at + 100].count(("queue", 1)) / 100 for at in range(0, len(order) - 99, 100)]

@@ -1,7 +1,5 @@
 """The command `hinge run --simulated`: input and output work as in real time, and impossible requests are reported."""
 
-from __future__ import annotations
-
 import ctypes
 import os
 import resource

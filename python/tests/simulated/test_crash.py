@@ -1,7 +1,5 @@
 """A host's crash in simulated time: the disk contains exactly the synced data."""
 
-from __future__ import annotations
-
 import shutil
 import subprocess
 import sys

@@ -1,11 +1,8 @@
 """Programs over links meet the theory exactly: only readings of the simulated clock add time."""
 
-from __future__ import annotations
-
 import asyncio
 
-from machines import Ran, Simulated, needs
-from packets import idle, packets_of, served, shares_of
+from machines import Ran, Simulated, idle, needs, packets_of, served, shares_of
 from simulated_hosts import Ends
 
 from hinge.fault_lines import read_faults
@@ -47,8 +44,7 @@ class Exact(Simulated):
 class OfPings(Exact):
     def test_an_hour_of_pings(self) -> None:
         """84 bytes take 336,000 ns at 2 Mbit/s and 67,200 ns at 10 Mbit/s. With 20 ms each way that is 40.4032 ms, plus the
-        programs' clock readings. The link also knows the moment of a packet that leaves without a reading.
-        """
+        programs' clock readings. The link also knows the moment of a packet that leaves without a reading."""
         ran = self.exact("--up", "2Mbit/s 20ms", "--down", "10Mbit/s 20ms", "--", "ping", "-q", "-c", "3600", "server")
         self.assertEqual([ran.summary[way]["late_max_ms"] for way in ("up", "down")], [0, 0])
         self.assertRegex(ran.out, r"= 40\.403/[\d.]+/40\.404/")
@@ -87,9 +83,8 @@ class OfDatagrams(Exact):
         self.assertEqual(gaps, [after - before for before, after in zip(ends, ends[1:])])
 
     def test_faults_do_the_same_as_in_a_test(self) -> None:
-        """With the same file of faults, a run's datagrams and asyncio's datagrams in simulated time arrive at the same moments,
-        to the microsecond.
-        """
+        """With the same file of faults, a run's datagrams and asyncio's datagrams in simulated time arrive at the same moments, to
+        the microsecond."""
         link, path = "8Mbit/s 20ms queue 100", self.folder / "faults"
         path.write_text("".join(f"client > server packet {it}\n" for it in ("1 twice", "2 lost", "4 late 15ms")))
         ran = self.sent_at_once(1000, "--up", link, "--faults", str(path))
@@ -111,9 +106,8 @@ class OfDatagrams(Exact):
 
     @needs("ping")
     def test_an_outage(self) -> None:
-        """A ping leaves each 100 ms, and its transmission takes 84 us. Pings before 2 s need 20.084 ms, and none starts during
-        the outage of 3 s.
-        """
+        """A ping leaves each 100 ms, and its transmission takes 84 us. Pings before 2 s need 20.084 ms, and none starts during the
+        outage of 3 s."""
         (self.folder / "changes").write_text("2s up outage 3s\n")
         changes = ["--timeline", str(self.folder / "changes")]
         ran = self.exact(
@@ -140,7 +134,8 @@ class OfTcp(Exact):
         for control in ("reno", "cubic"):
             with self.subTest(control):
                 packets = packets_of(self.carried(control).history)
-                full, last = next(packet.came for packet in packets if packet.fate == "full"), packets[-1].came
+                full = next(packet.came for packet in packets if packet.fate == "full")
+                last = packets[-1].came
                 steady = [packet for packet in served(packets, 1) if full < packet.start < last - SECOND]
                 self.assertGreater(len(steady), 4000)
                 self.assertEqual(set(idle(steady, TEN)), {0})
@@ -153,9 +148,8 @@ class OfTcp(Exact):
         self.assertLess(sum(idle(steady, TEN)), 7 * SECOND / 100)
 
     def test_two_flows_have_their_weights(self) -> None:
-        """With weights 3 and 1, while packets wait in both queues, the first queue sends three of four packets, to within one
-        of any hundred.
-        """
+        """With weights 3 and 1, while packets wait in both queues, the first queue sends three of four packets, to within one of
+        any hundred."""
         lines = [
             "pipe 1 config bw 20Mbit/s delay 1",
             *(f"queue {number} config pipe 1 weight {weight} queue 300" for number, weight in ((1, 3), (2, 1))),

@@ -1,7 +1,5 @@
 """Python's TCP libraries, unchanged: clients and servers over a lossy link do the same in two runs by one seed."""
 
-from __future__ import annotations
-
 import importlib.util
 import os
 import sys

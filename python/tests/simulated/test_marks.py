@@ -1,14 +1,10 @@
 """pytest's mark `simulated` runs a test in a machine of its own and brings back the test's report."""
 
-from __future__ import annotations
-
-import importlib.util
 import os
 import re
 import shutil
 import subprocess
 import sys
-import unittest
 from pathlib import Path
 
 from machines import Simulated
@@ -88,7 +84,6 @@ def test_a_cut(simulated_net):
 """
 
 
-@unittest.skipIf(importlib.util.find_spec("pytest") is None, "no pytest")
 class OfMarks(Simulated):
     def run_pytest(self, tests: str, **more: str) -> "subprocess.CompletedProcess[str]":
         (self.folder / "test_them.py").write_text(tests)

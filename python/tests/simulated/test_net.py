@@ -1,14 +1,11 @@
 """A net of hosts in simulated time: three nodes of etcd, whose leader is cut from its peers, are the same twice."""
 
-from __future__ import annotations
-
 import json
 import shutil
 import sys
 from pathlib import Path
 
-from machines import Simulated, needs
-from packets import packets_of, served
+from machines import Simulated, needs, packets_of, served
 
 THREE = """
 host a
@@ -145,8 +142,8 @@ class OfEtcd(Simulated):
     def test_a_partition_is_the_same_twice(self) -> None:
         shutil.copytree(NET.parent, self.folder, dirs_exist_ok=True)
         done = self.net(NET.read_text(), 1, "--twice")
-        self.assertEqual(done.stdout.splitlines()[-1], "consistent")
-        self.assertIn("hinge net: two runs by seed 1 are the same: ", done.stderr)
+        assert done.stdout.splitlines()[-1] == "consistent"
+        assert "hinge net: two runs by seed 1 are the same: " in done.stderr
         self.assert_lawful((self.folder / "session" / "net.history").read_text())
 
 
@@ -174,18 +171,17 @@ class OfFaults(Simulated):
 
     def test_faults_of_links_and_hosts_are_the_same_twice(self) -> None:
         """Faults of links repeat to the nanosecond. Of the two cuts between c and a, the second ends during the first."""
-        self.assertIn("hinge net: two runs by seed 3 are the same: ", self.net(FAULTS, 3, "--twice").stderr)
+        assert "hinge net: two runs by seed 3 are the same: " in self.net(FAULTS, 3, "--twice").stderr
         summary = json.loads((self.folder / "session" / "net.json").read_text())
         acts = [(one["words"].split()[0], one["moment"] - summary["main"], one["at"]) for one in summary["acts"]]
-        self.assertEqual([word for word, *_ in acts if word != "cut"], ["stop", "cont", "kill", "restart"])
-        self.assertTrue(all(moment == float(at[:-1]) * 1e9 for word, moment, at in acts if word == "cut"), acts)
+        assert [word for word, *_ in acts if word != "cut"] == ["stop", "cont", "kill", "restart"]
+        assert all(moment == float(at[:-1]) * 1e9 for word, moment, at in acts if word == "cut"), acts
         packets = packets_of((self.folder / "session" / "net.history").read_text())
         pings = [packet for packet in packets if packet.target == ("pipe", 2)]  # from c to a
-        self.assertEqual(
-            [packet.fate == "lost" for packet in pings],
-            [500_000_000 <= packet.came - summary["main"] < 2_500_000_000 for packet in pings],
-        )
-        self.assertEqual(len(pings), 60)
+        assert [packet.fate == "lost" for packet in pings] == [
+            500_000_000 <= packet.came - summary["main"] < 2_500_000_000 for packet in pings
+        ]
+        assert len(pings) == 60
 
     def test_a_fault_of_a_host_on_which_nothing_runs(self) -> None:
         """The host's command had ended, while a kill on another host and a longer stop have an effect."""
@@ -195,57 +191,52 @@ class OfFaults(Simulated):
             3,
         )
         told = [line for line in done.stderr.splitlines() if "by itself" in line]
-        self.assertEqual(told, ["hinge net: CAUTION, changed nothing, as the host's command had ended by itself: `kill a`"])
+        assert told == ["hinge net: CAUTION, changed nothing, as the host's command had ended by itself: `kill a`"]
         hosts = json.loads((self.folder / "session" / "net.json").read_text())["hosts"]
-        self.assertEqual({name: one["by"] for name, one in hosts.items()}, {"a": "itself", "b": "kill", "c": "itself"})
+        assert {name: one["by"] for name, one in hosts.items()} == {"a": "itself", "b": "kill", "c": "itself"}
 
 
 @needs("iperf3", "ping")
 class OfTheLinks(Simulated):
     def test_flipped_bits_are_the_same_twice(self) -> None:
-        """Receivers discard packets with wrong checksums: a stream arrives whole and some datagrams not at all, through a
-        switch and a router.
-        """
+        """Receivers discard packets with wrong checksums: a stream arrives whole and some datagrams not at all, through a switch
+        and a router."""
         (self.folder / "ends.py").write_text(ENDS)
         done = self.net(CORRUPTED, 3, "--twice")
-        self.assertIn("two runs by seed 3 are the same: ", done.stderr)
+        assert "two runs by seed 3 are the same: " in done.stderr
         came, names, counts = done.stdout.splitlines()
         errors = dict(zip(names.split(), counts.split()))["InCsumErrors"]
-        self.assertTrue(0 < int(came) < 100 and int(errors) > 0, done.stdout)
+        assert 0 < int(came) < 100 and int(errors) > 0, done.stdout
         ways = json.loads((self.folder / "session" / "net.json").read_text())["ways"]
-        self.assertEqual(
-            sum(way["corrupted"] for way in ways), (self.folder / "session" / "net.history").read_text().count("#,corrupt,")
-        )
+        assert sum(way["corrupted"] for way in ways) == (self.folder / "session" / "net.history").read_text().count("#,corrupt,")
         looked = self.hinge("look", "session")
-        self.assertEqual((looked.returncode, looked.stdout.splitlines()[-1]), (0, "lawful between links"), looked.stdout)
+        assert (looked.returncode, looked.stdout.splitlines()[-1]) == (0, "lawful between links"), looked.stdout
 
     def test_no_program_runs_before_them(self) -> None:
-        """b answers each of two connections, and what c then sends is on the link at once. A Linux feature lets other programs
-        run before one with priority, for 50 ms of each second, and iperf3 would spin for 5 ms before the link.
-        """
+        """b answers each of two connections, and what c then sends is on the link at once. A Linux feature lets other programs run
+        before one with priority, for 50 ms of each second, and iperf3 would spin for 5 ms before the link."""
         self.net(THREE, 1)
         packets = packets_of((self.folder / "session" / "net.history").read_text())
         own = [packet.came for packet in packets if packet.target == ("pipe", 5)]
         answers = [packet.due for packet in served(packets, 6) if packet.size == 60]
-        self.assertEqual(len(answers), 2)
+        assert len(answers) == 2
         waits = [next(came for came in own if came >= due) - due for due in answers]
-        self.assertLess(max(waits), 10_000, waits)
+        assert max(waits) < 10_000, waits
 
 
 class OfClocks(Simulated):
     def test_one_that_is_ahead_and_gains(self) -> None:
-        """With this clock the program reads the time of day and packets' time stamps, and waits for a moment in every way that
-        the kernel offers. The other host's clock is unchanged.
-        """
+        """With this clock the program reads the time of day and packets' time stamps, and waits for a moment in every way that the
+        kernel offers. The other host's clock is unchanged."""
         (self.folder / "looks.py").write_text(LOOKS)
         done = self.net(CLOCKS, 1, "--logs", "logs")
         for name, first, length in (("m", "5.001 0.0", "1.998"), ("o", "0.0 0.0", "2.0")):
             before, *waits, behind = (self.folder / "logs" / f"{name}.log").read_text().splitlines()
-            self.assertEqual((before, float(behind)), (first, 0.0), done.stderr)
-            self.assertEqual([wait.split()[1] for wait in waits], [length] * 8, waits)
+            assert (before, float(behind)) == (first, 0.0), done.stderr
+            assert [wait.split()[1] for wait in waits] == [length] * 8, waits
 
     def test_real_time_has_one_clock(self) -> None:
         (self.folder / "clocks.net").write_text(CLOCKS)
         done = self.hinge("net", "clocks.net")
-        self.assertEqual(done.returncode, 2)
-        self.assertIn("skew: hosts have clocks of their own in simulated time alone; add --simulated", done.stderr)
+        assert done.returncode == 2
+        assert "skew: hosts have clocks of their own in simulated time alone; add --simulated" in done.stderr

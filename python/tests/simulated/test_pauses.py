@@ -1,7 +1,5 @@
 """Pauses of processes find what a single order of calls hides. They repeat, and the link doesn't pause."""
 
-from __future__ import annotations
-
 import argparse
 import sys
 import unittest
@@ -9,8 +7,7 @@ from collections.abc import Iterable
 
 from hinge.simulated.pauses import MOST_GIVEN, Paused, drawn_pauses, given, pauses_of
 from hinge.simulated.time_options import pauses_word
-from machines import HERE, LINK, Simulated, needs
-from packets import packets_of
+from machines import HERE, LINK, Simulated, needs, packets_of
 
 ONCE = """take() { if [ ! -e lock ]; then echo > lock; echo $1 >> took; fi; }
           rm -f lock took; take a & take b & wait; test $(wc -l < took) = 1"""
@@ -28,7 +25,6 @@ class OfWords(unittest.TestCase):
 
     def test_pauses_one_by_one(self) -> None:
         pauses = pauses_of("20+1ms,9-5ns", 1)
-        assert pauses
         self.assertEqual(list(pauses.lines())[1:], ["9 before 5", "20 behind 1000000"])
 
     def test_what_is_drawn_is_the_seeds(self) -> None:
@@ -79,8 +75,7 @@ class OfPauses(Simulated):
     @needs("bash", "cc")
     def test_drawn_pauses_find_faults(self) -> None:
         """The faults: two processes create one file, jobs without a lock, and a signal whose handler runs before the call that
-        waits for the signal.
-        """
+        waits for the signal."""
         wakes = str(self.folder / self.compiled((HERE / "wakes.c").read_text()))
         for words in (["bash", "-c", ONCE], [sys.executable, "-c", JOBS], [wakes]):
             self.assertEqual(self.run_by(1, "--", *words).status, 0, words)

@@ -1,29 +1,25 @@
 """A search finds a fault that a seed draws, and removes everything that the failure doesn't need."""
 
-from __future__ import annotations
-
 import json
 import shlex
 import signal
 import subprocess
 import sys
 import time
-import unittest
 from contextlib import nullcontext
 from pathlib import Path
-from tempfile import TemporaryDirectory
 from typing import Any
 
 from hinge.command import Fault
 from hinge.net.description import read_description
 from hinge.net.net_plan import NetPlan
-from hinge.searches.case import KINDS, Case, Part, faults_of, joined_losses, lossless
-from hinge.searches.losses import packets_lost
-from hinge.searches.shrinking import least
+from hinge.searches.case import KINDS, Case, Part, faults_of, joined_losses, least, lossless
+from hinge.searches.cause import packets_lost
 from hinge.simulated.calls_kept import GOES_ON, PAUSES, CallRow, around
 from hinge.simulated.failures import file_beside
 from hinge.simulated.places import innermost_place
 from machines import HINGE, Simulated, below_of, environment, left, running
+from with_folder import WithFolder
 
 # The check fails where c was killed: it begins a second time.
 THREE = """
@@ -74,34 +70,30 @@ Runs(pathlib.Path(sys.argv[1]), Runner()).make(1)
 """
 
 
-class OfCases(unittest.TestCase):
+class OfCases(WithFolder):
     def test_a_run_that_another_user_made_meanwhile_stays(self) -> None:
         """In a folder such as /tmp, nobody overwrites another user's file."""
-        for who, status in (("another", 0), ("nobody", 1)):
-            with TemporaryDirectory() as folder:
-                done = subprocess.run([sys.executable, "-c", TAKEN, folder, who], capture_output=True, text=True, timeout=60)
+        for who, status in (("nobody", 1), ("another", 0)):
+            done = subprocess.run([sys.executable, "-c", TAKEN, self.folder, who], capture_output=True, text=True, timeout=60)
             self.assertEqual((done.returncode, "PermissionError" in done.stderr), (status, status == 1), done.stderr)
 
     def test_a_signal_before_all_runs_are_submitted_ends_those_that_began(self) -> None:
-        with TemporaryDirectory() as folder:
-            done = subprocess.run([sys.executable, "-c", SIGNALLED, folder], capture_output=True, timeout=60)
+        done = subprocess.run([sys.executable, "-c", SIGNALLED, self.folder], capture_output=True, timeout=60)
         self.assertEqual(done.returncode, 128 + signal.SIGHUP, done.stderr)
 
     def test_a_net_beside_another_file(self) -> None:
-        """The next run of a text removes the file that a killed run left, two simultaneous runs share a file, and a user's own
-        file stays.
-        """
-        with TemporaryDirectory() as folder:
-            with file_beside(Path(folder, "x"), NET) as net:
-                with file_beside(Path(folder, "y"), NET) as other:
-                    self.assertEqual((net.read_text(), other), (NET, net))
-                self.assertEqual(net.read_text(), NET)
-            for text, left_over in ((NET, []), (NET + NET, [net.name]), ("", [net.name])):
-                net.write_text(text)
-                with nullcontext() if text == NET else self.assertRaisesRegex(Fault, "needs the name"):
-                    with file_beside(Path(folder, "x"), NET):
-                        self.assertEqual(net.read_text(), NET)
-                self.assertEqual([path.name for path in Path(folder).iterdir()], left_over)
+        """The next run of a text removes the file that a killed run left, two simultaneous runs share a file, and a user's own file
+        stays."""
+        with file_beside(self.folder / "x", NET) as net:
+            with file_beside(self.folder / "y", NET) as other:
+                self.assertEqual((net.read_text(), other), (NET, net))
+            self.assertEqual(net.read_text(), NET)
+        for text, left_over in ((NET, []), (NET + NET, [net.name]), ("", [net.name])):
+            net.write_text(text)
+            with nullcontext() if text == NET else self.assertRaisesRegex(Fault, "needs the name"):
+                with file_beside(self.folder / "x", NET):
+                    self.assertEqual(net.read_text(), NET)
+            self.assertEqual([path.name for path in self.folder.iterdir()], left_over)
 
     def test_a_fault_is_left_out_with_its_end(self) -> None:
         """The search removes a fault with all events that end it, and with all faults that these events end as well."""
@@ -115,10 +107,9 @@ class OfCases(unittest.TestCase):
             (["1s b a outage 5s lossy", "2s heal b", "3s b a outage 5s"], "01 2"),
             (["1s stop a", "2s kill a 1s", "4s cont a"], "02 1"),
         ):
-            with TemporaryDirectory() as folder:
-                net = Path(folder, "x.net")
-                net.write_text(NET + "".join(f"at {line}\n" for line in lines))
-                found = [part.what for part in faults_of(NetPlan(read_description(str(net)), 1500).events)]
+            net = self.folder / "x.net"
+            net.write_text(NET + "".join(f"at {line}\n" for line in lines))
+            found = [part.what for part in faults_of(NetPlan(read_description(str(net)), 1500).events)]
             self.assertEqual(found, [tuple(f"at {lines[int(place)]}" for place in part) for part in parts.split()])
 
     def test_losses(self) -> None:
@@ -136,15 +127,14 @@ class OfCases(unittest.TestCase):
         """Each lost packet has a number on its way. Packets in a second pass, or after a full queue, have other numbers."""
         rows = ["pipe,1", "queued", "pipe,2", "lost", "pipe,1", "lost", "pipe,65535", "lost", "pipe,1", "full", "pipe,1", "lost"]
         text = "".join(f"c,0,submit,{row},10.8.0.1\n" if "pipe" in row else f"r,{row},1\n" for row in rows)
-        with TemporaryDirectory() as folder:
-            (path := Path(folder, "history")).write_text(text)
-            self.assertEqual([one[:2] for one in packets_lost([path], 2) or ()], [(1, 1), (0, 2), (0, 4)])
-            path.write_text(text + "c,0,submit,queue,1,10.8.0.1\n")
-            self.assertIsNone(packets_lost([path], 2))
-            lost = "c,0,submit,pipe,1,10.8.0.1\nr,lost,1\n"
-            lines = [f"c,0,configure,pipe 1 config bw 8Mbit/s plr {rate}\n" for rate in ("0.5", "1", "0.1")]
-            path.write_text(lost.join(["", *lines, ""]))
-            self.assertEqual([one[:2] for one in packets_lost([path], 2) or ()], [(0, 1), (0, 2), (0, 4)])  # the third is a cut's
+        (path := self.folder / "history").write_text(text)
+        self.assertEqual([one[:2] for one in packets_lost([path], 2) or ()], [(1, 1), (0, 2), (0, 4)])
+        path.write_text(text + "c,0,submit,queue,1,10.8.0.1\n")
+        self.assertIsNone(packets_lost([path], 2))
+        lost = "c,0,submit,pipe,1,10.8.0.1\nr,lost,1\n"
+        lines = [f"c,0,configure,pipe 1 config bw 8Mbit/s plr {rate}\n" for rate in ("0.5", "1", "0.1")]
+        path.write_text(lost.join(["", *lines, ""]))
+        self.assertEqual([one[:2] for one in packets_lost([path], 2) or ()], [(0, 1), (0, 2), (0, 4)])  # the third is a cut's
         self.assertEqual(
             joined_losses(["--loss up:list:2", "--loss up:list:4", "loss a b 2 up:list:1"]),
             ["--loss up:list:2,4", "loss a b 2 up:list:1"],
@@ -152,8 +142,7 @@ class OfCases(unittest.TestCase):
 
     def test_calls_around_a_pause(self) -> None:
         """The report lists three earlier calls, three calls by other threads at the pause's start and end, and three later
-        calls.
-        """
+        calls."""
         rows = [
             CallRow(1000 + n, 1000 + n, 7, 7 + (n == 5 or n == 20), {5: PAUSES, 20: GOES_ON}.get(n, 39), 39, n, "it")
             for n in range(30)
@@ -255,7 +244,7 @@ class OfSearches(Simulated):
             while not (below := below_of(process.pid)):
                 time.sleep(0.05)
             process.send_signal(signal.SIGHUP)
-            process.communicate()
+            process.communicate(timeout=100)
         self.assertEqual((process.returncode, left(self.folder), running(below)), (-signal.SIGHUP, [], []))
 
     def test_none_that_fails(self) -> None:

@@ -2,7 +2,7 @@
 use crate::shaper::{answered, secret};
 use crate::{raw, Error, Result};
 use std::io::{self, Write};
-use std::{fmt, ptr};
+use std::ptr;
 
 /// The most bytes of a history that [`Audit::new`] takes, as `dummynet audit` does: 256 MiB.
 pub const HISTORY_LIMIT: usize = 268_435_456;
@@ -136,8 +136,4 @@ impl Drop for Audit {
     }
 }
 
-impl fmt::Debug for Audit {
-    fn fmt(&self, to: &mut fmt::Formatter<'_>) -> fmt::Result {
-        to.debug_struct("Audit").finish_non_exhaustive()
-    }
-}
+opaque!(Audit);

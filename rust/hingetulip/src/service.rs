@@ -3,7 +3,7 @@ use crate::raw_service as raw;
 use crate::shaper::{answered, secret};
 use crate::{Caller, Error, History, Result};
 use std::io::Write;
-use std::{fmt, hint, io, ptr, thread, time::Duration};
+use std::{hint, io, ptr, thread, time::Duration};
 
 /// The most callers of a [`Service`].
 pub const MOST_CALLERS: usize = 15;
@@ -122,8 +122,4 @@ impl Drop for Service {
     }
 }
 
-impl fmt::Debug for Service {
-    fn fmt(&self, to: &mut fmt::Formatter<'_>) -> fmt::Result {
-        to.debug_struct("Service").finish_non_exhaustive()
-    }
-}
+opaque!(Service);

@@ -1,7 +1,6 @@
 //! The emulator.
 use crate::{raw, Deliveries, Delivery, Error, Fate, Flow, Packet, Result};
 use std::collections::{hash_map::RandomState, VecDeque};
-use std::fmt;
 use std::hash::{BuildHasher, Hasher};
 use std::ptr;
 
@@ -240,8 +239,4 @@ impl Drop for Shaper {
     }
 }
 
-impl fmt::Debug for Shaper {
-    fn fmt(&self, to: &mut fmt::Formatter<'_>) -> fmt::Result {
-        to.debug_struct("Shaper").finish_non_exhaustive()
-    }
-}
+opaque!(Shaper);

@@ -16,7 +16,7 @@ use std::pin::Pin;
 use std::sync::{Arc, Mutex, MutexGuard, PoisonError};
 use std::task::{Context, Poll};
 use std::time::Duration;
-use std::{fmt, mem};
+use std::mem;
 
 /// Hosts and the links between them, with a clock of their own. Clones are the same net.
 #[derive(Clone)]
@@ -188,11 +188,7 @@ impl Net {
     }
 }
 
-impl fmt::Debug for Net {
-    fn fmt(&self, to: &mut fmt::Formatter<'_>) -> fmt::Result {
-        to.debug_struct("Net").finish_non_exhaustive()
-    }
-}
+opaque!(Net);
 
 thread_local! {
     static HERE: RefCell<Option<Host>> = const { RefCell::new(None) };
