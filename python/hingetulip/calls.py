@@ -23,7 +23,9 @@ from hingetulip.records import Delivery, Fate, FlowStatus
 
 NEITHER_OR_BOTH = "a packet is sent to a pipe or to a queue"
 NOTHING = memoryview(b"")
-pack_packet, unpack_fate, iterate_deliveries = PACKET.record.pack_into, FATE.record.unpack, DELIVERY.record.iter_unpack
+pack_packet = PACKET.record.pack_into
+unpack_fate = FATE.record.unpack
+iterate_deliveries = DELIVERY.record.iter_unpack
 pack_moment = Struct("=Q").pack_into
 SECRET = Struct("=QQ")
 Line = Union[str, bytes, bytearray, memoryview]

@@ -142,7 +142,8 @@ def switch_function(function: SwitchableFunction, in_run: Either) -> Callable[[]
     fields[METHOD], fields[OBJECT], fields[FAST] = addressof(function.method), id(version), None
 
     def back() -> None:
-        fields[METHOD], fields[OBJECT], fields[FAST] = originals[METHOD], originals[OBJECT], originals[FAST]
+        for place in (METHOD, OBJECT, FAST):
+            fields[place] = originals[place]
         pythonapi.Py_DecRef(version)
 
     return back
