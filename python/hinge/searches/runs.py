@@ -158,8 +158,8 @@ class Runner:
 def completed(tasks: "set[Future[None]]") -> "Iterator[Future[None]]":
     """Yields the tasks as they end."""
     while tasks:
-        ended, tasks = wait(tasks, LOOK_EACH, FIRST_COMPLETED)
-        yield from ended
+        results, tasks = wait(tasks, LOOK_EACH, FIRST_COMPLETED)
+        yield from results
 
 
 class Runs:
