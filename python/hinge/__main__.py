@@ -82,16 +82,16 @@ def refuse(words: list[str], program: str = "hinge") -> None:
 
 
 def run_module(word: str) -> None:
-    """Runs a command with its words."""
+    """Runs the module of a command, which reads its words from sys.argv."""
     import importlib
 
     importlib.import_module(f"hinge.commands.{word.replace('-', '_')}").main()
 
 
 def inherit_nothing() -> None:
-    """Signals behave as in a program that a shell starts, whatever the parent ignores or blocks: while SIGCHLD is ignored, ends of
-    processes go unnoticed. SIGINT and SIGHUP stay ignored, as by `&` and nohup. Files from this process belong to its user,
-    whatever the umask. No module on PYTHONPATH replaces a module of the standard library, and no warning replaces an answer."""
+    """Replaces settings that the parent process may have changed. Restores SIGCHLD and blocked signals, since ends of processes go
+    unnoticed while SIGCHLD is ignored; SIGINT and SIGHUP stay ignored, as by `&` and nohup. Lets this user read and write all new
+    files, whatever the umask. Keeps modules on PYTHONPATH from replacing the standard library's, and warnings from the output."""
     _signal.signal(_signal.SIGCHLD, _signal.SIG_DFL)
     _signal.pthread_sigmask(_signal.SIG_SETMASK, ())
     os.umask(os.umask(0o077) & 0o077)

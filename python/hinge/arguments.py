@@ -1,5 +1,5 @@
-"""The common parts of command lines: inputs and bounded numbers. A help needs no other module, so some numbers and names of other
-modules are here."""
+"""The common parts of command lines: inputs and bounded numbers. Some numbers and names of other modules are here, so that a help
+loads none of these modules."""
 
 from __future__ import annotations
 
@@ -16,12 +16,13 @@ if TYPE_CHECKING:
 
 SOURCE = "a history or the transcript of a live session, or a packet file and the report that dummynet wrote of it; `-` is standard input"
 RULE = (
-    "[up|down] [tcp|udp|icmp|icmp6|proto N] [src|dst|host NET] [port|sport|dport N[-M]] [dscp N]"  # that says where a packet goes
+    "[up|down] [tcp|udp|icmp|icmp6|proto N] [src|dst|host NET] [port|sport|dport N[-M]] [dscp N]"  # a rule says where a packet goes
 )
-MODEL_NAMES = ("register", "cas", "set", "queue", "list", "lock")  # of what clients' operations are on
-WAYS = ("tuple", "flow", "target")  # that tell flows apart
-TABLE_FLOWS, PICTURE_FLOWS = 40, 8  # the most
-MOST_DIGITS = 20  # of a number: none that the kit reads is longer, and Python refuses to read one of thousands
+MODEL_NAMES = ("register", "cas", "set", "queue", "list", "lock")  # the kinds of objects on which clients operate
+WAYS = ("tuple", "flow", "target")  # the ways to tell flows apart
+TABLE_FLOWS = 40  # the most flows in a table
+PICTURE_FLOWS = 8  # the most flows in a picture
+MOST_DIGITS = 20  # the kit reads no longer number, and Python refuses numbers of thousands of digits
 
 
 def is_number(text: str) -> bool:
@@ -30,7 +31,7 @@ def is_number(text: str) -> bool:
 
 
 def bounded(low: int, high: int) -> Callable[[str], int]:
-    """Returns argparse's reader of a number within bounds."""
+    """Returns a function with which argparse reads a number within bounds."""
 
     def number(text: str) -> int:
         if not (is_number(text) and low <= int(text) <= high):
@@ -41,7 +42,7 @@ def bounded(low: int, high: int) -> Callable[[str], int]:
 
 
 def seeds(text: str) -> list[int]:
-    """Returns the seeds in `7`, `1-5` or a list of them. ArgumentTypeError: there are none."""
+    """Returns the seeds in a text such as `7`, `1-5` or `1-5,7`. ArgumentTypeError: the form is another, or a seed too large."""
     pairs = [part.partition("-")[::2] for part in text.split(",")]
     if not all(is_number(low) and is_number(high or low) and int(low) <= int(high or low) <= 10**6 for low, high in pairs):
         figures = "-".join(re.findall("[0-9]+", text)[:2])
@@ -50,7 +51,7 @@ def seeds(text: str) -> list[int]:
 
 
 def file_of(*formats: Format) -> Callable[[str], str]:
-    """Returns argparse's reader for a file name in one of these formats."""
+    """Returns a function with which argparse reads the name of a file in one of these formats."""
 
     def name(text: str) -> str:
         if not text.lower().endswith(endings):
@@ -66,14 +67,14 @@ def file_of(*formats: Format) -> Callable[[str], str]:
 def add_source(
     line: argparse.ArgumentParser, form: str = "(HISTORY | PACKETS REPORT)", words: str = "SOURCE", told: str = SOURCE
 ) -> None:
-    """Adds the inputs of tables, pictures and paragraphs, with their usage."""
+    """Adds the arguments for the inputs of tables, pictures and paragraphs, and the command's usage, which ends in `form`."""
     line.usage = f"{line.prog} [OPTION ..] {form}"
     line.add_argument("source", nargs="+", metavar=words, help=told)
     line.add_argument("--config", metavar="FILE", help="the configuration of the packet file's replay; a history has its own")
 
 
 def add_flows(line: argparse.ArgumentParser, most: int, default: Optional[int], text: str) -> None:
-    """Adds the options that group flows and set the number of groups."""
+    """Adds the options that group packets into flows, and limit the number of flows; `text` describes the default limit."""
     kinds = "what a flow is: packets of a five-tuple (the default), a flow of dummynet, or all packets to a pipe or queue"
     add(line, "--by", kinds, choices=WAYS, default="tuple")
     add(line, "--top N", f"the N largest flows, the rest as one (default: {text})", type=bounded(1, most), default=default)
@@ -99,11 +100,11 @@ class LookOptions(SimpleNamespace):
 
     @property
     def outputs(self) -> list[str]:
-        """The files that are written."""
+        """Returns the names of all files to write."""
         return [*self.o, *([self.json] if self.json else [])]
 
     def files(self, *formats: Format) -> list[str]:
-        """Returns the files of -o in some formats."""
+        """Returns the names of -o that have one of these formats."""
         from hinge.outputs import format_of
 
         return [name for name in self.o if format_of(name) in formats]

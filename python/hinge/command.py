@@ -35,7 +35,7 @@ CLOSED = list[int]()  # the standard streams that were closed at first
 
 
 class Fault(Exception):
-    """Raised when a command can't continue; contains one line and the exit status, which may be that of its class."""
+    """Raised when a command can't continue. Holds the line to print and the exit status, by default the exception class's."""
 
     status: int
 
@@ -83,7 +83,8 @@ def open_closed_streams() -> None:
 
 
 def say(line: str) -> None:
-    """Prints a line on standard error, which may quote others' text."""
+    """Prints a line on standard error, behind the command's name. The line may quote others' text, so this call escapes control
+    characters and cuts very long lines."""
     tell(f"{NAME[0]}: {printable(line[:LONGEST])}" + (" .." if len(line) > LONGEST else ""))
 
 
@@ -98,7 +99,7 @@ def advised(refusal: str) -> str:
 
 
 def outcome(main: Callable[[], object]) -> tuple[int, str]:
-    """Returns a command's status, and the line with the reason for a failure. A closed output pipe is no failure."""
+    """Runs a command; returns its exit status, and a line with the reason for a failure. A closed output pipe is no failure."""
     try:
         main()
         sys.stdout.flush()
@@ -127,8 +128,8 @@ def outcome(main: Callable[[], object]) -> tuple[int, str]:
 
 
 def run(main: Callable[[], object]) -> NoReturn:
-    """Runs a command and ends the process; no exception passes. A fault is a line on standard error. If the output can't be
-    written, except to a closed pipe, the status is that of files."""
+    """Runs a command, prints the reason for a failure on standard error, and ends the process with the command's status. If output
+    can't be written, the status is FILES, unless the output's reader closed its pipe."""
     if _signal.getsignal(_signal.SIGINT) == _signal.SIG_DFL:
         _signal.signal(_signal.SIGINT, _signal.default_int_handler)
     status, line = outcome(main)
@@ -143,7 +144,7 @@ def run(main: Callable[[], object]) -> NoReturn:
 
 
 def path_of_program(name: str, package: str) -> str:
-    """Returns the path of a program from a Debian package. Fault: it isn't installed."""
+    """Returns the path of a program from a Debian package. Fault: the program isn't installed."""
     import shutil
 
     path = shutil.which(name)
@@ -153,7 +154,7 @@ def path_of_program(name: str, package: str) -> str:
 
 
 def module(name: str, package: str) -> ModuleType:
-    """Returns a Python module from pip or a Debian package. Fault: it isn't installed, or can't be loaded."""
+    """Returns a Python module from pip or a Debian package. Fault: the module isn't installed, or can't be loaded."""
     import importlib
 
     try:
@@ -165,6 +166,7 @@ def module(name: str, package: str) -> ModuleType:
 
 
 def numpy() -> ModuleType:
+    """Returns the module numpy. Fault: it isn't installed, or can't be loaded."""
     return module("numpy", "python3-numpy")
 
 
@@ -186,7 +188,7 @@ def working(what: str) -> Iterator[None]:
 
 
 class Progress:
-    """Tells how far a long command is, on standard error, where that is a terminal, after two seconds."""
+    """Prints a long command's count of steps on standard error, if that is a terminal, after two seconds."""
 
     def __init__(self, what: str) -> None:
         self.what = what
@@ -194,6 +196,7 @@ class Progress:
         self.shown, self.is_seen = False, sys.stderr.isatty()
 
     def at(self, count: int) -> None:
+        """Prints the count over the last one, at most twice a second."""
         if not self.is_seen:
             return
         now = time.monotonic()
@@ -203,12 +206,13 @@ class Progress:
         tell_over(f"{self.what}: {count:,}")
 
     def done(self) -> None:
+        """Erases the count from the terminal."""
         if self.shown:
             tell_over()
 
 
 class Bar:
-    """Prints a command's progress and expected end on standard error, if that is a terminal, after two seconds."""
+    """Prints a command's progress and its remaining time on standard error, if that is a terminal, after two seconds."""
 
     def __init__(self, what: str, total: int) -> None:
         self.what = what
@@ -220,6 +224,7 @@ class Bar:
         self.shown = False
 
     def step(self, failed: bool = False) -> None:
+        """Counts a step, and prints the progress at most twice a second."""
         self.done, self.failed, now = self.done + 1, self.failed + failed, time.monotonic()
         if now - self.began < PROGRESS_AFTER or now - self.told < 0.5 or not sys.stderr.isatty():
             return
@@ -229,7 +234,7 @@ class Bar:
         self.told, self.shown = now, True
 
     def clear(self) -> None:
-        """Clears the line for other messages."""
+        """Erases the progress line from the terminal, so that other messages can use the line."""
         if self.shown:
             tell_over()
             self.shown = False

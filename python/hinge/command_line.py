@@ -1,4 +1,4 @@
-"""The command line, parsed by argparse."""
+"""A strict parser of command lines, built on argparse."""
 
 from __future__ import annotations
 
@@ -8,11 +8,12 @@ import sys
 from itertools import takewhile
 from typing import Any, Callable, NoReturn
 
-NEAR, OUTPUT = 0.82, ("--out", "--output")  # of what was typed, and of what is meant
+NEAR = 0.82  # the least likeness, for difflib, of an unknown option to the option that may be meant
+OUTPUT = ("--out", "--output")  # unknown options that mean -o
 
 
 def add(line: argparse._ActionsContainer, words: str, text: str, **more: Any) -> None:
-    """Adds an option with a value; the text names both, as in `--late TIME`."""
+    """Adds an option or an argument. `words` contain its name and its value's name, as in `--late TIME`; `text` is its help."""
     option, _, value = words.partition(" ")
     settings_of_value: dict[str, Any] = {"metavar": value} if value else {}
     line.add_argument(option, help=text, **settings_of_value, **more)
@@ -26,26 +27,27 @@ class Joined(argparse.Action):
 
 
 class Parser(argparse.ArgumentParser):
-    """A strict command line: each option is written in full, has a value that isn't empty, has no second one unless both
-    count, and does something. Of an unknown one it names that which may be meant."""
+    """Parses a command line strictly. Each option is written in full, has an effect and no empty value, and only options that may
+    be repeated occur twice. A refusal of an unknown option names the option that the user may have meant."""
 
     def __init__(self, **settings: Any) -> None:
         super().__init__(**settings, allow_abbrev=False)
-        self.given = dict[str, list[str]]()  # by names of options: what was typed behind them
+        self.given = dict[str, list[str]]()  # the values that were typed, by the names of their options
         self.foreign = list[tuple[str, str]]()  # options of other tools, with their values
-        self.rules = list[tuple[str, Callable[[], bool], str]]()  # options, whether they do nothing, and where
+        self.rules = list[tuple[str, Callable[[], bool], str]]()  # the arguments of `rule`
 
     def needs(self, options: str, *others: str) -> None:
-        """Refuses options without effect if some other option is missing."""
+        """Refuses each of these options if none of the others is given, since it does nothing then."""
         for option in options.split():
             self.rule(option, lambda: not self.given.keys() & {*others}, f"without {' or '.join(others)}")
 
     def yields(self, options: str, *others: str) -> None:
-        """Refuses options without effect next to all these options."""
+        """Refuses each of these options if all of the others are given, since it does nothing then."""
         for option in options.split():
             self.rule(option, lambda: self.given.keys() >= {*others}, f"beside {' and '.join(others)}")
 
     def rule(self, option: str, is_idle: Callable[[], bool], where: str) -> None:
+        """Refuses an option if `is_idle` returns True after parsing; `where` ends the message."""
         self.rules.append((option, is_idle, where))
 
     def _parse_known_args(self, *words: Any, **how: Any) -> Any:
@@ -62,7 +64,8 @@ class Parser(argparse.ArgumentParser):
         return result
 
     def parse_intermixed_args(self, args: Any = None, namespace: Any = None) -> Any:
-        """Returns options and files, which may come in any order. Behind `--` only files follow, and may begin with a hyphen."""
+        """Returns the options and files of a command line, which may come in any order. Behind `--` only files follow, which may
+        begin with a hyphen."""
         words = sys.argv[1:] if args is None else args
         at = words.index("--") if "--" in words else len(words)
         files = [f"./{word}" if word.startswith("-") else word for word in words[at + 1 :]]
@@ -73,7 +76,8 @@ class Parser(argparse.ArgumentParser):
         return [name for name, action in self._option_string_actions.items() if action.help is not argparse.SUPPRESS]
 
     def _get_values(self, action: argparse.Action, texts: list[str]) -> Any:
-        """Reads an option's values, each time that it occurs."""
+        """Returns an option's values, each time that the option occurs. ArgumentError: a value is empty, or an option that can't be
+        repeated has a second value."""
         if not action.option_strings:
             return super()._get_values(action, texts)
         option = action.option_strings[0]
@@ -92,13 +96,15 @@ class Parser(argparse.ArgumentParser):
         return super()._get_values(action, texts)
 
     def value_fault(self, fault: re.Match[str]) -> str:
-        """Returns what is wrong with an option's lack of a value, or with a value, in place of argparse's words."""
+        """Returns a message, in place of argparse's, for an option that lacks its value or has a value that doesn't belong
+        there."""
         option = fault[1].rpartition("/")[2]
         behind = next((word for before, word in zip(sys.argv, sys.argv[1:]) if before == option and re.match(r"-\d", word)), "")
         lack = "a value is missing" + (f"; write {option}={behind} if it is this one" if behind else "")
         return f"argument {option}: {f'it has no value; leave out {fault[2]}' if fault[2] else lack}"
 
     def error(self, message: str) -> NoReturn:
+        """Prints why the command line is refused, with what to write, and ends the process."""
         import difflib  # which takes longer to load than a help may
 
         options = [word for word in takewhile(lambda word: word != "--", sys.argv[1:]) if re.match("-.", word)]

@@ -9,7 +9,7 @@
     at 5s crash server 1s
     at 6s skew client -2s
 
-A file has one a line, for `pytest --link-faults FILE`, `hinge run --faults FILE`, and a line `faults FILE` of a net."""
+A file contains a fault on each line, for `pytest --link-faults FILE`, `hinge run --faults FILE`, and a net's line `faults FILE`."""
 
 from __future__ import annotations
 
@@ -41,12 +41,12 @@ NO_FAULT = "not a fault; write `client > server packet 3 lost`, `twice` or `late
 
 @dataclass(frozen=True, order=True)
 class Fault:
-    """A fault on a link's packet: a loss, a copy, or a delay by some ms."""
+    """Describes a packet's fault on a link: a loss, a copy, or a delay by some ms."""
 
-    link: str  # its hosts, as `client > server`
-    packet: int  # by its place among those that come to the link, from 1
-    kind: str
-    ms: int = 0
+    link: str  # the link's hosts, as `client > server`
+    packet: int  # the packet's place among the packets that come to the link, from 1
+    kind: str  # IS_LOST, IS_TWICE or IS_LATE
+    ms: int = 0  # the delay if the packet is late
 
     def __str__(self) -> str:
         return f"{self.link} packet {self.packet} {self.kind}{f' {self.ms}ms' if self.kind == IS_LATE else ''}"
@@ -54,12 +54,12 @@ class Fault:
 
 @dataclass(frozen=True, order=True)
 class Act:
-    """An act on a host or link: its moment, and its length in seconds, or a clock's offset in seconds."""
+    """Describes an act on a host or link: a cut, a hold or a crash of some length, or an offset of a host's clock."""
 
     moment: float  # s since the beginning
-    kind: str
+    kind: str  # one of ACTS
     of: str  # a host, or for a cut or a hold a link as `client > server`
-    seconds: float
+    seconds: float  # the length, or the clock's offset
 
     def __str__(self) -> str:
         sign = "+" if self.kind == SKEW and self.seconds >= 0 else ""
@@ -70,16 +70,17 @@ Either = Union[Fault, Act]
 
 
 def spelled(seconds: float) -> str:
-    """Returns a text such as 1.5s."""
+    """Returns a time as a fault's line spells it, such as `1.5s`."""
     return f"{seconds:.9f}".rstrip("0").rstrip(".") + "s"
 
 
 def seconds_of(text: str) -> float:
+    """Returns the seconds of a time such as `1.5s` or `80ms`."""
     return float(text[:-2]) / 1000 if text.endswith("ms") else float(text[:-1])
 
 
 def read_act(line: str) -> Act:
-    """Returns the act of a line. ValueError: the line is malformed."""
+    """Returns the act that a line describes. ValueError: the line is malformed."""
     match = ACT.fullmatch(line)
     if match is None or (match["kind"] == SKEW) != bool(match["sign"]) or match["kind"] in (CRASH, SKEW) and " > " in match["of"]:
         raise ValueError(f"{line!r}: {NO_FAULT}")
@@ -88,7 +89,7 @@ def read_act(line: str) -> Act:
 
 
 def read_fault(line: str) -> Either:
-    """Returns the fault of a line. ValueError: the line is malformed."""
+    """Returns the fault or act that a line describes. ValueError: the line is malformed."""
     match = LINE.fullmatch(line)
     if match is None and line.startswith("at "):
         return read_act(line)
@@ -99,7 +100,8 @@ def read_fault(line: str) -> Either:
 
 
 class Faults(Tuple[Either, ...]):
-    """Faults, by their lines."""
+    """Holds faults of packets and acts on hosts and links, in order. Each argument is a Fault, an Act, or a line of text such as
+    `client > server packet 3 lost`."""
 
     def __new__(cls, *lines: Union[str, Either]) -> Faults:
         faults = (read_fault(line) if isinstance(line, str) else line for line in lines)
@@ -107,7 +109,7 @@ class Faults(Tuple[Either, ...]):
 
     @property
     def packets(self) -> List[Fault]:
-        """Those of packets."""
+        """Returns the faults of packets."""
         return [it for it in self if isinstance(it, Fault)]
 
     @property
@@ -123,7 +125,7 @@ class Faults(Tuple[Either, ...]):
 
 
 class Drawn(Faults):
-    """Faults that hypothesis draws or a shrinking tries: their links are there, and a packet may never come."""
+    """Holds faults that hypothesis draws, or that a search tries while it shrinks a failure. Their packets may never come."""
 
 
 def faults_in(path: Union[str, Path], lines: Iterable[str]) -> Faults:

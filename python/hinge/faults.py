@@ -1,4 +1,4 @@
-"""Faults that are chosen, on the links of hingetulip.aio. Hypothesis draws them, and shrinks those of a test that fails:
+"""Chosen faults on the links of hingetulip.aio. Hypothesis can draw the faults, and shrinks the faults of a failed test:
 
     @given(some_faults("client > server", "server > client"))
     def test_it(faults):
@@ -21,11 +21,11 @@ if TYPE_CHECKING:
     from hingetulip.aio import Disturbance
 
 T = TypeVar("T")
-DELAYS = (5, 20, 50, 100, 300, 1000)  # ms, of packets that hypothesis draws as late
-LASTING = (0.2, 1.0, 3.0, 10.0)  # s, of acts that it draws
-MOST_TRAINS = 3
-MOST_OF_TRAIN = 8
-MOST_APART = 12
+DELAYS = (5, 20, 50, 100, 300, 1000)  # the delays in ms that hypothesis draws for late packets
+LASTING = (0.2, 1.0, 3.0, 10.0)  # the lengths in s that hypothesis draws for acts
+MOST_TRAINS = 3  # a train is a row of packets at equal distances with the same fault
+MOST_OF_TRAIN = 8  # packets
+MOST_APART = 12  # packets from a train's packet to its next one
 MOST_ACTS = 2
 
 
@@ -41,6 +41,7 @@ class FaultyNetwork(Network):
             self.loop.call_at(act.moment, self._act, act)
 
     def _act(self, act: Act) -> None:
+        """Does an act now, and keeps what it disturbs, or why it is refused."""
         if not self.closing:
             try:
                 self.acted[act] = self.act(act)
@@ -49,7 +50,7 @@ class FaultyNetwork(Network):
                 self.refused_acts[act] = str(error)
 
     def act(self, act: Act) -> Disturbance:
-        """Does an act now. ValueError: there is no such host or link."""
+        """Does an act now, and returns its disturbance. ValueError: there is no such host or link."""
         do = {CUT: self.cut, HOLD: self.hold, CRASH: self.crash, SKEW: self.skew}[act.kind]
         return do(act.of, act.seconds)
 
@@ -74,21 +75,23 @@ class FaultyNetwork(Network):
         return (lambda number: late.get(number, 0)) if late else None, twice.__contains__ if twice else None
 
     def faults_met(self) -> list[Either]:
-        """Returns as faults what happened to packets: those lost, then those doubled, then those late."""
+        """Returns what happened to packets, as faults: the losses and copies in order of time, then the delays in order of
+        links."""
         faults = [
             Fault(link.name, number, kind, link.late.get(number, 0) * (kind == IS_LATE)) for link, kind, number in self.happened
         ]
         return [*(it for it in faults if it.kind != IS_LATE), *sorted(it for it in faults if it.kind == IS_LATE)]
 
     def unmet(self) -> Faults:
-        """Returns the faults whose packets never arrived, and those without effect."""
+        """Returns the faults whose packets never came to their links, and the acts that weren't done or had no effect."""
         faults = Faults() if self.chosen is None else self.chosen
         came = {it.name: it.came for it in self.links.values()}
         packets = (it for it in faults.packets if came.get(it.link, 0) < it.packet)
         return Faults(*packets, *(it for it in faults.acts if it not in self.acted or not self.acted[it].met))
 
     def unmet_faults(self) -> list[str]:
-        """Returns the faults of missing links, and listed faults whose packets never came."""
+        """Returns a message for each fault whose link is missing and each refused act. Unless the faults are drawn, adds a message
+        for each fault whose packet never came, and each act whose moment never came."""
         lines = super().unmet_faults()
         names = [it.name for it in self.links.values()]
         is_drawn = isinstance(self.chosen, Drawn)

@@ -22,7 +22,7 @@ BOTH = ("--up", "--down")
 ONE_WAY = "it is one way, as in the original; --link is both"
 EXAMPLE = "an example, as nothing in this line is of a link"
 CONTAINER = "sudo hinge run --container %s"
-# What to write, the page about it, and the words that it answers, if the rest of the line says no more.
+# Each row: the line to write, the page about it (if any), and the words that get this answer if the rest of the line says no more.
 TABLE = """
 hinge run --link '10Mbit/s 20ms loss 1%' -- COMMAND | LINKS | tc netem qdisc tbf htb comcast delay loss link latency limit
  bandwidth mm-delay mm-loss trickle wondershaper tcset clumsy
@@ -68,13 +68,15 @@ hinge search FILE.net | SIMULATED | fuzz explore seeds shrink
 
 
 class Answer(NamedTuple):
-    """The advised words, the page about them if any, and the part of the input that they leave out."""
+    """Describes what to write in place of a user's words: the line, the page that describes the line, and notes, such as the words
+    that no link can obey. The line and the page may be empty."""
 
     write: str
     page: str = ""
     notes: tuple[str, ...] = ()
 
     def text(self) -> str:
+        """Returns the answer as the end of a message: the line to write, the notes, and the command that shows the page."""
         lines = "; ".join([*([f"write {self.write}"] if self.write else []), *self.notes])
         return lines + (f" (hinge docs {self.page})" if self.page else "")
 
@@ -90,13 +92,15 @@ EXAMPLES = {word for word, answer in WORDS.items() if answer.write.startswith(("
 
 
 def lacking(what: Sequence[str], page: str = "LINKS") -> Answer:
+    """Returns the answer that no link does what these words request."""
     return Answer("", page, (f"no link does: {', '.join(what)}",))
 
 
 def of_link(
     tool: str, words: Sequence[str], more: str = "", before: str = "hinge run", behind: str = " -- COMMAND"
 ) -> Optional[Answer]:
-    """Returns the line that replaces another tool's words, or the reason why no link can; None if the words contain no request."""
+    """Returns the line that replaces another tool's words, with a note on the words that no link can obey; None if the words
+    request nothing of a link. The line consists of `before`, the link's options, `more` and `behind`."""
     meant = Meant(tool, words)
     options = shlex.join(meant.options())
     notes = [ONE_WAY] if options.startswith(("--up ", "--down ")) and not {"--up", "--down"} <= {*options.split()} else []
@@ -120,7 +124,8 @@ def of_tc(words: Sequence[str]) -> Optional[Answer]:
 
 
 def of_ipfw(words: Sequence[str]) -> Optional[Answer]:
-    """Answers a line of ipfw or dnctl without options that configures a pipe or queue, loses packets, lists or ends."""
+    """Answers a line of ipfw or dnctl that configures a pipe or queue, loses a share of packets, or lists or deletes entries. Words
+    with a hyphen are ignored."""
     own = [word for word in words if word not in ("ipfw", "dnctl") and not word.startswith("-")]
     if own[:1] in (["pipe"], ["queue"]) and "config" in own[1:3]:
         kind, number_of, rest = own[0], own[own.index("config") % 2 + 1], own[3:]
@@ -145,7 +150,8 @@ def of_ipfw(words: Sequence[str]) -> Optional[Answer]:
 
 
 def of_pumba(words: Sequence[str]) -> Optional[Answer]:
-    """Answers pumba: netem's kinds become a link, and acts on a container become acts on a net's host."""
+    """Answers a line of pumba. A fault of netem becomes a container's link, an act on a container becomes an act on a net's
+    host."""
     kind = next((kind for kind in ("loss-gemodel", "loss", *SHARES, "delay", "rate") if kind in words), None)
     options = [f"--{kind}-percent" if word == "--percent" else word for word in words[1:] if word not in ("netem", kind)]
     if kind is not None:
@@ -162,6 +168,7 @@ def of_pumba(words: Sequence[str]) -> Optional[Answer]:
 
 
 def of_toxiproxy(words: Sequence[str]) -> Optional[Answer]:
+    """Answers a line of toxiproxy that adds or updates a toxic, or that lists, inspects, removes, deletes or toggles a proxy."""
     if {"add", "update"} & {*words}:
         return of_link("toxiproxy", words, " --outside")
     return next((WORDS[word] for word in words[1:] if word in ("list", "inspect", "remove", "delete", "toggle")), None)
@@ -184,7 +191,8 @@ def of_shaper(words: Sequence[str]) -> Optional[Answer]:
 
 
 def of_run(words: Sequence[str]) -> Optional[Answer]:
-    """Answers link words, or options and a command for `hinge run`, after another word."""
+    """Answers a word such as `start` or `simulate` before link words, before a net's file, or before options of `hinge run`, `--`
+    and a command."""
     words = [words[0], *words[2 if words[1:2] == ["run"] else 1 :]]
     link, rest = link_before(words[1:])
     time = ["--simulated", "--seed", "1"] if words[0].startswith("sim") else []
@@ -201,7 +209,7 @@ def of_run(words: Sequence[str]) -> Optional[Answer]:
 
 
 def of_command(words: Sequence[str]) -> Optional[Answer]:
-    """Answers a program that needs a link and a server, in the place of a command of hinge."""
+    """Answers a program's name and arguments in the place of a `hinge` command; None for a name without arguments."""
     server = " --server 'iperf3 -s -1'" if "server" in words and words[0] == "iperf3" else ""
     return Answer(f"hinge run --preset lte{server} -- {shlex.join(words)}", "LIVE") if words[1:] else None
 
@@ -245,14 +253,15 @@ def refusal(line: str) -> str:
 
 
 def answer_of(words: Sequence[str]) -> Optional[Answer]:
-    """Returns the replacement for these words after `hinge`, if known, or the reason for a refusal."""
+    """Returns what to write in place of these words after `hinge`, or why `hinge run` refuses the line that would replace them;
+    None if the words are unknown."""
     answer = replacement(words)
     wrong = refusal(answer.write) if answer else ""
     return Answer("", answer.page, (wrong,)) if answer and wrong else answer
 
 
 def replacement(words: Sequence[str]) -> Optional[Answer]:
-    """Returns the replacement for these words after `hinge`, if known."""
+    """Returns what to write in place of these words after `hinge`; None if the words are unknown."""
     words = list(words)[words[0] == "sudo" and len(words) > 1 :]
     link = words[0]
     first = (words[0].rpartition("/")[2] or words[0]).lower()
@@ -269,8 +278,8 @@ def replacement(words: Sequence[str]) -> Optional[Answer]:
 
 
 def of_options(typed: Sequence[tuple[str, str]], given: Mapping[str, Sequence[str]], names: Collection[str]) -> str:
-    """Returns the replacement for all of these options and their values, with options that the command knows, and the link's
-    existing words."""
+    """Returns a message for options of other tools: what to write in place of them all, and what nothing replaces. `typed` contains
+    these options with their values, `given` the typed values of known options, and `names` all options of the command."""
     meant = Meant("ours", [word for option, value in typed if option not in OPTIONS for word in (option, value)])
     more = [*meant.options()[1:], *filter(None, map(corrected, meant.rest))]
     meant.rest = [words for words in meant.rest if not corrected(words)]

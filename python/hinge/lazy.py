@@ -11,7 +11,7 @@ from hinge.command import Fault, numpy
 
 
 class Lazy(ModuleType):
-    """numpy before it is loaded, and the module that replaces a missing numpy, if any."""
+    """Loads numpy when a name of numpy is first used; the module `other`, if any, replaces a missing numpy."""
 
     def __init__(self, other: str = "") -> None:
         super().__init__("numpy")

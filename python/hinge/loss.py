@@ -1,7 +1,7 @@
-"""Loss models, which determine the word for each packet in a direction.
+"""Loss models, which determine each packet's word: the number from 0 to 2^31 - 1 that decides whether a link loses the packet.
 
-A packet is lost if the low 31 bits of its word are below the loss rate of the pipe or queue. Under `plr 0.5` the words LOST and
-KEPT lose exactly the packets that a model chooses. Each direction uses a separate model, so that its words never depend on the
+A packet is lost if its word is below the loss rate of the pipe or queue times 2^31. Under `plr 0.5` the words LOST and KEPT lose
+exactly the packets that a model chooses. Each direction uses a separate model, so that its words never depend on the
 other direction.
 
     words = GilbertElliott(to_bad=0.01, to_good=0.3, seed=7, direction=1)
@@ -21,8 +21,8 @@ from hinge.run.words import WAYS, Wrong
 from hingetulip_words.values import plain_number
 
 LOST, KEPT = 0, (1 << 31) - 1
-PARTS = 1 << 31  # of a rate, as the program has it
-MOST_LISTED = 10**6  # packets of a range
+PARTS = 1 << 31  # the program keeps a rate as a number of these parts
+MOST_LISTED = 10**6  # the longest range of packets
 Rate = Union[float, Fraction]
 
 
@@ -63,7 +63,7 @@ class GilbertElliott:
     to_good: Rate
     in_bad: Rate = 1
     in_good: Rate = 0
-    # Without them a model takes those of the link that has it, and 1 where it has no link.
+    # None stands for the seed and the direction of the model's link, or for 1 without a link.
     seed: Optional[int] = None
     direction: Optional[int] = None
     is_bad: bool = field(default=False, init=False)
@@ -103,7 +103,7 @@ class BurstsByTime:
         self.bind(1, 1)
 
     def bind(self, seed: int, direction: int) -> None:
-        """Does the same as that of GilbertElliott."""
+        """Sets the seed and direction from the model's link, unless the model sets them."""
         own = (seed if self.seed is None else self.seed, direction if self.direction is None else self.direction)
         self.random = Bernoulli(*own)
 
@@ -119,7 +119,7 @@ class BurstsByTime:
 
 @dataclass
 class Chosen:
-    """The packets that a function says, by their numbers from 1."""
+    """Losses of the packets that a function chooses by their numbers, which count from 1."""
 
     is_lost: Callable[[int], bool]
     number: int = field(default=0, init=False)
@@ -130,7 +130,7 @@ class Chosen:
 
 
 class Listed(Chosen):
-    """The packets with these numbers, from 1."""
+    """Losses of the packets with these numbers, which count from 1."""
 
     def __init__(self, numbers: Collection[int]) -> None:
         super().__init__(frozenset(numbers).__contains__)
@@ -178,14 +178,14 @@ def read_model(text: str) -> Maker:
 
 
 def gilbert(text: str) -> str:
-    """Reads `P,R[,B[,G]]`: the chances to turn bad and to turn good, and the loss rates in the bad and the good state; returns
-    the plan's numbers."""
+    """Returns a Gilbert-Elliott model's numbers for the plan, which tells hinge-link what to emulate. The text has the form
+    `P,R[,B[,G]]`: the chances to turn bad and to turn good, and the loss rates in the bad and the good state."""
     to_bad, to_good, in_bad, in_good = (parts(rate) for rate in read_rates(text))
     return f"{to_bad} {to_good} {in_good} {in_bad}"
 
 
 def listed(text: str) -> str:
-    """Reads packet numbers such as `3,10-20`, counted from 1; returns the plan's numbers."""
+    """Returns the plan's numbers for packets such as `3,10-20`, which count from 1."""
     return " ".join(map(str, sorted(read_numbers(text))))
 
 
@@ -193,14 +193,14 @@ MODELS = {"gilbert": gilbert, "list": listed}
 
 
 def rate_of(text: str) -> str:
-    """Returns the percentage if the text is a loss rate, which belongs into the link."""
+    """Returns a loss rate as a percentage, such as `1%`; an empty text if the text is no rate."""
     rate = re.fullmatch(r"(\d+(?:\.\d+)?|\.\d+)(%?)", text)
     return plain_number(Fraction(rate[1]) * (1 if rate[2] or Fraction(rate[1]) > 1 else 100)) + "%" if rate else ""
 
 
 def loss_lines(text: str, link: int = 0) -> dict[int, str]:
-    """Returns a line of the plan for each way in the text: `[up:|down:]gilbert:P,R[,B[,G]]` or `[up:|down:]list:N,N-M`. Wrong: the
-    text has another form."""
+    """Returns the plan's lines for a link's loss model, by the number of the way (one direction of a link). The text has the form
+    `[up:|down:]gilbert:P,R[,B[,G]]` or `[up:|down:]list:N,N-M`. Wrong: the text has another form."""
     first, _, more = text.partition(":")
     ways, model = ([WAYS[first]], more) if first in WAYS else ([0, 1], text)
     kind, _, value = model.partition(":")

@@ -122,7 +122,8 @@ for row in MEANT_TABLE.replace("\n ", " ").strip().splitlines():
 
 
 def kind_of(path: str) -> str:
-    """Returns the kind of a file or folder from its beginning; an empty text if unknown. OSError, Fault: it can't be read."""
+    """Returns the kind of a file by its beginning, or of a folder or socket; an empty text if unknown. OSError, Fault: the file
+    can't be read."""
     mode = os.stat(path).st_mode
     if stat.S_ISDIR(mode):
         return "session" if os.path.exists(os.path.join(path, "net.history")) else "folder"
@@ -133,6 +134,7 @@ def kind_of(path: str) -> str:
 
 
 def kind_of_text(data: bytes) -> str:
+    """Returns the kind of a file that begins with these bytes, regardless of blank lines and comments; an empty text if unknown."""
     text = data[:FRONT].removeprefix(b"\xef\xbb\xbf")
     if not text.startswith((b"#!", b"\x0a\x0d")):
         text = re.sub(rb"\A(?:[ \t\r]*(?:#[^\n]*)?\n)+", b"", text).lstrip(b" \t")
@@ -140,7 +142,7 @@ def kind_of_text(data: bytes) -> str:
 
 
 def line_for(command: str, kind: str, path: str) -> str:
-    """Returns what a file is, and the line to type."""
+    """Returns what a file of this kind is called, and the line to type with the file, if there is one."""
     what, form = KINDS[kind]
     form = OF_COMMAND.get(f"{command} {kind}", form)
     name = shlex.quote(path if kind != "program" or "/" in path else f"./{path}")
@@ -149,7 +151,8 @@ def line_for(command: str, kind: str, path: str) -> str:
 
 
 def filled(line: str, words: Sequence[str]) -> str:
-    """Returns a line to type with the files among these words in the place of their kinds, as HISTORY, and numbers for ROW."""
+    """Returns a line to type, with the files among these words in place of their kinds, such as HISTORY, and numbers in place of
+    ROW."""
     for word in words:
         with suppress(ArgumentTypeError, OSError, Fault):
             name = kind_of(word).upper() if os.path.exists(word) else "ROW"
@@ -161,7 +164,7 @@ def filled(line: str, words: Sequence[str]) -> str:
 
 
 def files_in(command: str, words: Sequence[str]) -> Iterator[tuple[str, str]]:
-    """Yields the existing files in a command line, each with the kinds that belong there."""
+    """Yields the existing files in a command line, each with the kinds of files that belong in its place."""
     option = next((option for option in ("--diff", "--model") if option in words), "")
     places = TAKES.get(f"{command} {option}".rstrip(), "").split(",")
     before = ""
@@ -178,7 +181,8 @@ def files_in(command: str, words: Sequence[str]) -> Iterator[tuple[str, str]]:
 
 
 def in_place(command: str, before: str, word: str) -> str:
-    """Returns what to write for a word that isn't a file, where one belongs; an empty text if unknown."""
+    """Returns what to write in place of a word that isn't a file but stands where a file belongs, behind the word `before`; an
+    empty text if unknown."""
     link = corrected(word)
     kind = kind_of_text(word.encode(errors="replace"))
     if before in OF_OPTIONS:
@@ -203,7 +207,7 @@ def in_place(command: str, before: str, word: str) -> str:
 
 
 def line_for_word(command: str, own: Sequence[str]) -> str:
-    """Returns the right line for a first word or option that people try, or an empty text."""
+    """Returns the line to type in place of a first word or an option that people try; an empty text if there is none."""
     for word, following in zip(own, [*own[1:], "-"]):
         name, _, value = word.partition("=")
         name = name if f"{command} {name}" in MEANT else "" if name.startswith("--") else name[:2]

@@ -1,4 +1,4 @@
-"""The files that a command writes: none is an input, and each is whole or isn't there."""
+"""The files that a command writes. None is also an input, and each is either complete or missing."""
 
 from __future__ import annotations
 
@@ -45,7 +45,8 @@ def format_of(name: str) -> Format:
 
 
 def refuse_inputs(outputs: Iterable[Name], inputs: Iterable[Name]) -> None:
-    """Fault: an output is also an input or another output, under any name. Call this before reading."""
+    """Refuses outputs that are inputs or other outputs, under any name. Fault: there is such an output. Call this before
+    reading."""
     names = {place(name): str(name) for name in inputs if is_file(name)}
     for name in outputs:
         if is_file(name):
@@ -55,7 +56,7 @@ def refuse_inputs(outputs: Iterable[Name], inputs: Iterable[Name]) -> None:
 
 
 def is_file(name: Name) -> bool:
-    """Returns whether a name refers to a file, rather than a standard stream or a device."""
+    """Returns whether a name refers to a regular file or to no file yet, rather than to a standard stream, a folder or a device."""
     return name not in (None, "-") and (not Path(str(name)).exists() or Path(str(name)).is_file())
 
 
@@ -81,9 +82,9 @@ def is_planted(name: Union[str, Path]) -> bool:
 
 @contextmanager
 def written(name: Union[str, Path]) -> Iterator[Path]:
-    """Yields a path for writing a file, which gets its name when complete. Before that the file is unnamed if the file system
-    allows that, so that an interrupted process leaves no file. An older file stays until then. PermissionError: the name is
-    planted."""
+    """Yields the path to write to. A regular file gets its name when complete, and an older file stays until then. Before, the new
+    file is unnamed if the file system allows that, so that an interrupted process leaves no file. Devices, FIFOs, and files in a
+    folder that this user can't change are written in place. PermissionError: the name is planted."""
     if is_planted(name):
         raise PermissionError(errno.EACCES, "another user made it, in a folder for all users", str(name))
     if not is_file(name):
@@ -156,7 +157,7 @@ def give_name(place: Path, path: Path, beside: Path) -> None:
 
 
 def link(place: Path, name: Path) -> None:
-    """Links a file to a name. Python follows the name in /proc only if a folder's descriptor is given."""
+    """Links a file to a name. Python follows the file's name in /proc only if the call has a folder's descriptor."""
     with holding(name.parent) as folder:
         os.link(place, name.name, dst_dir_fd=folder, follow_symlinks=True)
 

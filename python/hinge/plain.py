@@ -1,4 +1,4 @@
-"""The few functions of numpy that tables and paragraphs call, over lists of Python, for a machine that lacks numpy."""
+"""The few functions of numpy that tables and paragraphs call, written with Python's lists, for machines without numpy."""
 
 from __future__ import annotations
 
@@ -9,7 +9,7 @@ from itertools import accumulate, chain, compress, repeat
 from typing import Any, Callable, Iterable, Iterator, Optional, Sequence
 
 int64 = int
-CODES = {"i1": "b", "i4": "i", "u4": "I", "i8": "q"}  # of numpy's names of numbers
+CODES = {"i1": "b", "i4": "i", "u4": "I", "i8": "q"}  # Python's codes for numpy's types of numbers
 
 
 class Array:
@@ -69,6 +69,7 @@ class Array:
 
 
 def is_mask(row: Array) -> bool:
+    """Returns whether a row consists of truth values."""
     return len(row) > 0 and isinstance(row.items[0], bool)
 
 
@@ -78,6 +79,8 @@ def each(value: Any) -> Iterable[Any]:
 
 
 def by_places(function: Callable[[Any, Any], Any], swaps: bool = False) -> Callable[[Array, Any], Array]:
+    """Returns a method that applies a function to the two items at each place; `swaps` exchanges the two."""
+
     def method(self: Array, other: Any) -> Array:
         return Array(map(function, each(other), self) if swaps else map(function, self, each(other)))
 
@@ -154,7 +157,7 @@ def bincount(row: Array, weights: Optional[Array] = None, minlength: int = 0) ->
 
 
 def partition(row: Array, places: Iterable[int]) -> Array:
-    """Returns the row sorted, so that the items at the places are right, too."""
+    """Returns the sorted row, in which the items at these places are right, too."""
     return Array(sorted(row))
 
 

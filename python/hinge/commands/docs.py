@@ -1,4 +1,4 @@
-"""The pages of the documentation, where they are installed or in the clone."""
+"""The command `hinge docs`, which names or shows the installed or the clone's pages of the documentation."""
 
 from __future__ import annotations
 
@@ -16,7 +16,7 @@ WHAT = """\
 Names the pages of the documentation and their folder, or shows one: on a terminal by the pager of the variable PAGER,
 and else as it is."""
 INSTALLED = Path("share", "doc", "hingetulip", "docs")
-INSIDE = "inside"  # the folder of the pages on the code, which a clone has
+INSIDE = "inside"  # the folder of the pages on the code, which only a clone has
 PAGES = """FORMATS=FILES HISTORIES=FILES SESSIONS=FILES JSON=FILES CONFIG=LINKS FAULTS=NET SWEEPS=CAPTURE SHARES=SPEC THREADS=EMBEDDING
 CALLERS=DECISIONS CHOICES=DECISIONS RATES=PERFORMANCE"""
 MOVED = dict(pair.split("=") for pair in PAGES.split())  # pages that versions up to 1.7 had, and the page that has their contents
@@ -41,7 +41,7 @@ def page_rows(folder: Path) -> Iterator[str]:
 
 
 def page_named(folder: Path, name: str) -> str:
-    """Returns the text of the page with this current or former name, regardless of case and extension. Fault: there is no such page."""
+    """Returns the text of the page with this current or former name, regardless of case and extension. Fault: no such page."""
     pages = {page.stem: page for page in folder.rglob("*.md")}
     key = name.rpartition("/")[2].upper().removesuffix(".MD")
     key = MOVED.get(key, key)

@@ -31,8 +31,8 @@ STATUSES = """\
 the command's own; 128 and the signal if one ended it; 126, 127 if it can't be executed; 2 a wrong word, or no such run or host; 6 the system
 refuses something"""
 SHELL = "sh"
-MOMENT = 1  # s
-VARIABLES = ("HINGE_HOST", "HINGE_NET")  # that a run may set: none by which a program is found or loaded
+MOMENT = 1  # s that a run needs at most to close its socket after its commands were killed
+VARIABLES = ("HINGE_HOST", "HINGE_NET")  # the variables that a run may set; none decides which program or library is loaded
 
 
 def command_line() -> argparse.Namespace:
@@ -48,7 +48,8 @@ def command_line() -> argparse.Namespace:
 
 
 def ends(socket: str) -> bool:
-    """Returns whether a run has ended or is about to end: its commands are killed before its socket closes."""
+    """Returns whether a run ends within a moment. A run's commands are killed before its socket closes, so the socket may still
+    answer at first."""
     until = time.monotonic() + MOMENT
     while is_answered(socket):
         if time.monotonic() > until:

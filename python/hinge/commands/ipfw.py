@@ -21,7 +21,7 @@ the exit status is 3 where that was a pipe or queue, or where there is none."""
 
 
 def text_lines(name: str) -> Iterator[str]:
-    """Yields the lines of a file. Fault: a zero byte shows that the file isn't text."""
+    """Yields the lines of a file. Fault: the file contains a zero byte, and so isn't text."""
     for line in lines_in(name, errors="replace"):
         if "\0" in line:
             raise Fault(f"{told_name(name)}: it isn't text", CONFIGURATION)

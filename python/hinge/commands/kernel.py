@@ -48,7 +48,7 @@ def command_line() -> argparse.Namespace:
 
 
 def made(source: Optional[Path], compilers: int) -> Path:
-    """Builds and tests the kernel; returns its folder."""
+    """Builds the kernel from the packed source, by default the system's newest, and tests it; returns the kernel's folder."""
     start = time.monotonic()
     steps = build.Build(source or build.source(), compilers).run()
     sleep = trial.try_hour(next(steps))

@@ -1,4 +1,4 @@
-"""Hosts of a net that a file describes, with any programs on any links, in real or simulated time."""
+"""The command `hinge net`, which runs any programs on the hosts of a net that a file describes, in real or simulated time."""
 
 from __future__ import annotations
 
@@ -85,7 +85,7 @@ def options() -> Parser:
 
 
 def add_staying(parser: argparse.ArgumentParser) -> None:
-    """Adds the options for ways into and out of a net, and for its duration."""
+    """Adds the options for access to a net from outside, for its way out, and for its duration."""
     parser.add_argument("--control", metavar="SOCKET", help="where `hinge change`, `status` and `exec` find it")
     add(parser, "--outside HOST", "a host leads to the rest of the network, by slirp4netns or pasta: a router for all hosts")
     add(parser, "--outside-loopback HOST", "the same, with this system's own loopback at 10.9.0.2 and fd00::2")
@@ -96,6 +96,7 @@ def add_staying(parser: argparse.ArgumentParser) -> None:
 
 
 def descriptor(text: str) -> int:
+    """Returns an open file's descriptor, which the net's programs don't inherit. ArgumentTypeError: there is no such open file."""
     try:
         os.set_inheritable(int(text), False)
         return int(text)
@@ -104,7 +105,7 @@ def descriptor(text: str) -> int:
 
 
 def command_line(words: Sequence[str]) -> NetOptions:
-    """Returns the options, with the main command after `--` as `command`."""
+    """Returns the options; their field `command` is the main command, which comes after `--`."""
     at = words.index("--") if "--" in words else len(words)
     return NetOptions(**vars(options().parse_args(words[:at])), command=list(words[at + 1 :]))
 

@@ -17,7 +17,7 @@ from hinge.run.settings import RunOptions
 from hinge.simulated.failures import failure_command
 from hinge.simulated.time_options import add_simulated
 
-OF_OWN_HOSTS = ("server", "to", "outside", "outside_loopback", "net", "simulated")  # options that --netns excludes
+OF_OWN_HOSTS = ("server", "to", "outside", "outside_loopback", "net", "simulated")  # options that can't be used with --netns
 USAGE = "hinge run [OPTION ..] [--] COMMAND [ARGUMENT ..]"
 WHAT = """\
 Runs COMMAND behind an emulated link: what it sends goes through pipe 1 to the host `server` (10.8.0.2, fd08::2), what comes back through pipe 2."""
@@ -60,7 +60,7 @@ def options() -> Parser:
 
 
 def options_and_command(line: Parser, words: Sequence[str]) -> argparse.Namespace:
-    """Returns the options, and the command without its `--`."""
+    """Returns the options, whose field `command` is the command without its `--`; refuses a line without a command."""
     arguments = line.parse_args(words)
     from hinge.run.hints import link_as_command  # as all below, behind the command line, since a help has to come at once
 
@@ -75,6 +75,7 @@ def options_and_command(line: Parser, words: Sequence[str]) -> argparse.Namespac
 
 
 def command_line(words: Optional[Sequence[str]] = None) -> RunOptions:
+    """Returns the options, in which --container is replaced by its process. Fault: the command can't be executed."""
     arguments = options_and_command(options(), failure_command(sys.argv[1:] if words is None else [*words], "run"))
     from hinge.run.hints import lacking
 
@@ -89,7 +90,7 @@ def command_line(words: Optional[Sequence[str]] = None) -> RunOptions:
 
 
 def refuse_beside_netns(run: RunOptions) -> None:
-    """Wrong: an option doesn't apply to an existing network."""
+    """Refuses options that configure hosts, beside --netns, whose hosts exist already. Wrong: there is such an option."""
     names = [f"--{name.replace('_', '-')}" for name in OF_OWN_HOSTS if getattr(run, name)]
     from hinge.run.words import Wrong
 
@@ -112,6 +113,7 @@ def main() -> None:
 
 
 def tell_hints(run: RunOptions) -> None:
+    """Prints hints on options or commands that probably don't do what the user means."""
     from hinge.run.hints import hints
 
     for hint in hints(run):

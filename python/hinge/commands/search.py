@@ -60,7 +60,8 @@ def command_line() -> argparse.Namespace:
 
 
 def failure_file(line: argparse.Namespace) -> Path:
-    """Returns the path of the failure file. Fault: a net's file must be beside the net, whose folder its commands use."""
+    """Returns the path of the file for the failure. Fault: the file of a net's failure isn't beside the net, whose commands use the
+    net's folder."""
     if line.what[0] == "run":
         return line.o or Path(FAILURE)
     file: Path = line.o or line.file.with_name(FAILURE)

@@ -1,4 +1,4 @@
-"""How a link that runs is doing."""
+"""The command `hinge status`, which prints the counts of a running link."""
 
 from __future__ import annotations
 

@@ -45,7 +45,7 @@ class Sender:
         self.newest = -1
 
     def next(self) -> Optional[int]:
-        """Returns the next segment to send, if the window has room."""
+        """Returns the next segment to send; None if no segment waits, or the window has no room."""
         if not self.waiting or len(self.under_way) >= self.window:
             return None
         segment = self.waiting.popleft()
@@ -53,14 +53,14 @@ class Sender:
         return segment
 
     def acknowledged(self, segments: Sequence[int]) -> None:
-        """Acknowledges all segments received so far."""
+        """Opens the window for each segment that has arrived, and repeats the segments that later ones overtook."""
         for place in (self.under_way.pop(segment) for segment in segments if segment in self.under_way):
             self.window += 1 if self.window < self.threshold else 1 / self.window
             self.newest = max(self.newest, place)
         self.lose([segment for segment, place in self.under_way.items() if place < self.newest - DUPLICATES])
 
     def lose(self, segments: Sequence[int]) -> None:
-        """Sends these segments again before others."""
+        """Puts these segments before all others that wait, and halves the window unless this loss was counted already."""
         if segments and max(map(self.under_way.__getitem__, segments)) >= self.halved_till:
             self.threshold = self.window = max(self.window / 2, 2.0)
             self.halved_till = self.sent
@@ -70,7 +70,7 @@ class Sender:
 
 
 class Download:
-    """All segments go down, and an acknowledgement comes up for each, with how many had come until then."""
+    """Emulates the download. All segments go down, and for each an acknowledgement with the number of arrived segments comes up."""
 
     def __init__(self, path: Path, links: tuple[str, str]) -> None:
         from hingetulip.recorded import RecordedShaper  # the library, without which there is still a help
@@ -84,12 +84,14 @@ class Download:
             self.shaper.configure(f"pipe {number} config {in_full(read_link(words))}")
 
     def submit(self, pipe: int, length: int, content: int) -> None:
+        """Submits a packet to a pipe, and keeps the packet's content until the packet leaves the pipe."""
         (src, sport), (dst, dport) = ENDS if pipe == UP else ENDS[::-1]
         fate = self.shaper.submit(self.moment, length, pipe=pipe, proto=6, src=src, dst=dst, sport=sport, dport=dport)
         if fate.packet is not None:
             self.carried[fate.packet] = pipe, content
 
     def came_out(self, pipe: int, content: int) -> None:
+        """Hands a packet that left a pipe to its receiver: a segment to the client, or an acknowledgement to the server."""
         if pipe == DOWN:
             self.came.append(content)
             self.submit(UP, ACK, len(self.came))
@@ -97,7 +99,8 @@ class Download:
             self.sender.acknowledged(self.came[:content])
 
     def run(self) -> None:
-        """Goes from each moment at which something happens on a link to the next. Where nothing happens any more, a timeout passes."""
+        """Downloads all segments, by going from each moment at which something happens on a link to the next. If nothing more
+        happens, a timeout passes."""
         while self.sender.waiting or self.sender.under_way:
             while (segment := self.sender.next()) is not None:
                 self.submit(DOWN, SEGMENT, segment)
@@ -122,7 +125,7 @@ def drawn(name: str, values: list[float]) -> Iterator[str]:
 
 
 def picture(replay: Replay, span: int) -> Iterator[str]:
-    """Yields the picture: received bytes, the queue, and drops."""
+    """Yields the picture's lines: received bytes, the queue, and drops, over a replay of `span` ns."""
     step = span // STEPS + 1
     rates = [0.0] * STEPS
     queues = [0.0] * STEPS
@@ -149,12 +152,13 @@ def picture(replay: Replay, span: int) -> Iterator[str]:
 
 
 def longest(replay: Replay) -> int:
-    """Returns the row of the segment that waited longest."""
+    """Returns the row of the packet that waited longest, counted from 1."""
     waits = [start - at if event == OUT else -1 for event, start, at in zip(replay.event, replay.start, replay.at)]
     return waits.index(max(waits)) + 1
 
 
 def told(path: Path, name: str, links: tuple[str, str], kept: Optional[str]) -> Iterator[str]:
+    """Downloads, and yields the command's output. The history goes to `path`; `kept` is the name under which the user keeps it."""
     began = time.monotonic()
     transfer = Download(path, links)
     transfer.run()

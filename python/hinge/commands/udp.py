@@ -28,7 +28,7 @@ from hinge.run.system import Missing
 from hinge.run.words import Wrong, read_lines
 from hingetulip_words.link import Place, corrected
 
-LONGEST = 1500  # bytes of a packet, by which outages are reckoned
+LONGEST = 1500  # bytes of the longest packet, which an outage has to hold up
 SIGNALS = {signal.SIGCHLD, signal.SIGTERM, signal.SIGHUP, signal.SIGINT}
 WHAT = """\
 Sends what comes to LISTEN through pipe 1 to SERVER, and what SERVER sends back through pipe 2, until ^C. Prints `ready at HOST:PORT` once it
@@ -43,14 +43,14 @@ STATUSES = """\
 
 
 class SocketAddress(NamedTuple):
-    """A host, which may be empty, and a port."""
+    """Describes a host, by an address or a name that may be empty, and a port."""
 
     host: str
     port: int
 
     @classmethod
     def read(cls, text: str) -> SocketAddress:
-        """Reads an address: PORT, HOST:PORT or [HOST]:PORT. ArgumentTypeError: the text has another form."""
+        """Returns the address in a text: PORT, HOST:PORT or [HOST]:PORT. ArgumentTypeError: the text has another form."""
         host, _, port = text.rpartition(":")
         if not (is_number(port) and int(port) < 65536):
             raise argparse.ArgumentTypeError(f"{text!r} is neither PORT nor HOST:PORT")
@@ -58,7 +58,7 @@ class SocketAddress(NamedTuple):
 
 
 def found_address(address: SocketAddress, family: int) -> tuple[int, tuple[str, int]]:
-    """Returns the family, numeric host and port of an address in a given family. Wrong: there is no such address."""
+    """Returns the family, numeric host and port of an address; `family` 0 allows any family. Wrong: there is no such address."""
     try:
         infos = socket.getaddrinfo(
             address.host or ("::1" if family == socket.AF_INET6 else "127.0.0.1"), address.port, family, socket.SOCK_DGRAM
@@ -71,7 +71,8 @@ def found_address(address: SocketAddress, family: int) -> tuple[int, tuple[str, 
 
 
 def links_in_order(words: list[str]) -> list[str]:
-    """Returns the configuration lines. A LINK with a space is a line, otherwise a file. Wrong: it is a link's words."""
+    """Returns the configuration lines of the arguments LINK. An argument with a space is a line, any other is a file of lines.
+    Wrong: an argument consists of link words."""
     lines = list[str]()
     for word in words:
         link = None if os.path.exists(word) else corrected(word, Place.RUN)
@@ -98,6 +99,7 @@ def options() -> Parser:
 
 
 def bound_socket(address: SocketAddress) -> socket.socket:
+    """Returns a datagram socket at an address. Missing: the system refuses the address."""
     family, place = found_address(address, socket.AF_INET if not address.host else 0)
     sock = socket.socket(family, socket.SOCK_DGRAM)
     try:
@@ -108,7 +110,7 @@ def bound_socket(address: SocketAddress) -> socket.socket:
 
 
 def what_is_carried(order: Order, front: socket.socket, server: tuple[str, int]) -> int:
-    """Has the host carry datagrams until a signal comes; the status."""
+    """Forwards datagrams between a socket and the server until a signal comes; returns the exit status."""
     page, processes = Page(), Processes(SIGNALS)
     control = order.control(page, lambda: record(page.read(), [way["dropped"] for way in page.read().ways], None, order.seed, []))
     link = Link(

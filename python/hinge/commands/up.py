@@ -1,4 +1,4 @@
-"""A net in the background."""
+"""The command `hinge up`, which starts a net in the background."""
 
 from __future__ import annotations
 
@@ -46,7 +46,7 @@ def command_line() -> argparse.Namespace:
 
 
 def wait_until_ready(process: "Process[bytes]", socket: str, log: Path) -> list[str]:
-    """Waits until the net is ready; returns the ports that didn't open. Fault: the net ended."""
+    """Waits until the net is ready; returns a line for each port that didn't open. Fault: the net ended."""
     while not is_answered(socket) and process.poll() is None:
         time.sleep(POLL)
     try:

@@ -15,33 +15,39 @@ LOSS_PARTS = 2**31
 
 
 class LineFault(Fault):
-    """The first line that the program refuses, as in `config line 3, word 5: bad number`."""
+    """Raised with the place of the first line that the program refuses, as in `config line 3, word 5: bad number`."""
 
     status = CONFIGURATION
 
 
 @dataclass(frozen=True)
 class Limit:
+    """Describes how many packets or kilobytes a queue can hold; one of the two is None."""
+
     slots: Optional[int]
     kbytes: Optional[int]
 
 
 @dataclass(frozen=True)
 class Pipe:
+    """Describes the setting of a pipe."""
+
     number: int
-    bw: int
-    delay: int
+    bw: int  # bit/s; 0 for no limit
+    delay: int  # ms
     limit: Limit
-    loss: int
+    loss: int  # the rate times LOSS_PARTS
 
 
 @dataclass(frozen=True)
 class Queue:
+    """Describes the setting of a queue, which shares a pipe with other queues."""
+
     number: int
-    pipe: int
-    weight: int
+    pipe: int  # the number of the pipe
+    weight: int  # the queue's share of the pipe, relative to other queues
     limit: Limit
-    loss: int
+    loss: int  # the rate times LOSS_PARTS
 
 
 Setting = Union[Pipe, Queue]
@@ -51,8 +57,8 @@ RECORD = "c,0,configure,"
 
 
 def setting_of(text: str) -> tuple[str, int, Optional[Setting]]:
-    """Returns the content of a command in the program's spelling: `pipe` or `queue`, its number, and the setting, or None for a
-    delete."""
+    """Returns the content of a configuration line in the program's spelling: `pipe` or `queue`, the number, and the setting; None
+    as the setting for a delete."""
     words = text.split()
     if words[1] == "delete":
         return words[0], int(words[2]), None
@@ -78,7 +84,7 @@ def spelled_lines(data: bytes) -> list[str]:
 
 
 class InForce:
-    """The pipes and queues that commands leave in force, by number."""
+    """Holds the pipes and queues that configuration lines leave in force, by number."""
 
     def __init__(self, commands: Iterable[str] = ()) -> None:
         self.pipes: dict[int, Pipe] = {}
@@ -87,6 +93,7 @@ class InForce:
             self.obey(text)
 
     def obey(self, text: str) -> None:
+        """Adds, replaces or deletes the pipe or queue of a configuration line."""
         kind, number, setting = setting_of(text)
         table: dict[int, Setting] = self.pipes if kind == "pipe" else self.queues  # type: ignore[assignment]
         table.pop(number, None)

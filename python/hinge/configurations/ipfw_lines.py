@@ -35,13 +35,13 @@ FREE, TIMES = 1 << 20, 16  # letters for which variables may stand, and how many
 
 
 class LeftOut(Exception):
-    """Why a command is left out."""
+    """Raised with the reason why a command is left out."""
 
 
 class Candidate(NamedTuple):
-    """A line that the program hasn't judged yet."""
+    """Describes a configuration line that the program dummynet hasn't judged yet."""
 
-    note: int  # how many notes there were before
+    note: int  # the number of notes before this line's
     place: str
     command: str
     line: str
@@ -49,7 +49,7 @@ class Candidate(NamedTuple):
 
 @dataclass
 class Conversion:
-    """The configuration lines so far, and the notes on their sources."""
+    """Holds the configuration lines converted so far, and notes on what was changed or left out."""
 
     variables: dict[str, str] = field(default_factory=dict)
     lines: list[str] = field(default_factory=list)
@@ -60,21 +60,21 @@ class Conversion:
     budget: Budget = field(default_factory=lambda: Budget(0, ""))  # of letters that variables stand for
 
     def say(self, place: str, text: str) -> None:
-        """Adds a note for the end of the output; after very many notes, only adds that there are more."""
+        """Adds a note to print at the end. After very many notes, adds a last note that there would be more."""
         if len(self.notes) < MOST_NOTES:
             self.notes.append(f"{place}: {text}")
         elif len(self.notes) == MOST_NOTES:
             self.notes.append(f"{place}: there is more to say from here on")
 
     def read(self, name: str, lines: Iterable[str]) -> None:
-        """Reads the lines of a file. Exceeded: its variables expand far beyond its length, or a line is too long."""
+        """Reads the lines of a file. Exceeded: the file's variables expand far beyond its length, or a line is too long."""
         self.budget = Budget(FREE, "letters for which variables stand")
         for number, line in joined_lines(lines):
             self.budget.add(TIMES * len(line))
             self.read_line(f"{name}:{number}", line)
 
     def take(self, place: str, command: str) -> None:
-        """Reads a command; adds notes on its omitted parts."""
+        """Reads a command. If the command can't be converted, counts it as left out, and notes the reason."""
         try:
             self.read_command(place, command)
         except LeftOut as reason:
@@ -82,7 +82,8 @@ class Conversion:
             self.say(place, f"left out: {command.strip()} ({reason})")
 
     def unsure(self, commands: list[str]) -> Optional[str]:
-        """Explains why a configuring line can't be converted: a variable that only a shell knows, or a scheduler."""
+        """Returns why one of a line's commands can't be converted: it has a variable that only a shell knows, or configures a
+        scheduler; None without such a command."""
         for command in (self.expanded(command) for command in commands):
             if UNSURE.search(command) and not HEAD.search(command) and not re.search(r"\s(?:add|show|list)\s", command):
                 unknown = VARIABLE.search(command) or re.search(r"\$\S+", command)
@@ -103,7 +104,7 @@ class Conversion:
             self.take(place, command)
 
     def asked(self, command: str) -> Optional[str]:
-        """Returns a command's part for pipes and queues, or None."""
+        """Returns the part of a command that configures, deletes or flushes pipes or queues; None without such a part."""
         text = self.expanded(command)
         match = HEAD.search(text)
         if match is None or re.search(r"\s(?:add|show|list)\s", text[: match.start(1)]):
@@ -111,6 +112,8 @@ class Conversion:
         return REDIRECTION.sub("", match[1])
 
     def read_command(self, place: str, command: str) -> None:
+        """Sets a shell variable, or adds the configuration lines for a command on pipes and queues. LeftOut: the command contains
+        an unknown variable, or configures a scheduler."""
         if (match := ASSIGNMENT.fullmatch(command.strip())) is not None:
             self.variables[match[1]] = self.expanded(match[2].strip("\"'"))
             return
@@ -131,7 +134,7 @@ class Conversion:
             self.candidates.append(Candidate(len(self.notes), place, command.strip(), " ".join(line_words)))
 
     def expanded(self, text: str) -> str:
-        """Returns the text with the shell variables that the files set."""
+        """Returns the text, with the values of shell variables that the files set in place of their names."""
 
         def value(match: re.Match[str]) -> str:
             result = self.variables.get(match[1] or match[3], match[0] if match[2] is None else match[2])
@@ -150,7 +153,7 @@ class Conversion:
         yield words[:3] + list(Options(self, place, kind, words[3:]).words())
 
     def settle(self) -> None:
-        """Keeps the lines that dummynet accepts, as judged in one session."""
+        """Has dummynet judge all candidates at once; keeps the lines that it accepts, and notes the others as left out."""
         waiting, self.candidates = self.candidates, []
         items = []
         refuse_long((one.place for one in waiting), (one.line for one in waiting))
@@ -168,7 +171,7 @@ class Conversion:
 
 @dataclass
 class Options:
-    """The options of a line, in dummynet's spelling."""
+    """Converts the options of a configuring line into dummynet's spelling."""
 
     conversion: Conversion
     place: str
@@ -176,6 +179,7 @@ class Options:
     given: list[str]
 
     def words(self) -> Iterator[str]:
+        """Yields the options and their values in dummynet's spelling, without options that have no effect here."""
         rest = iter(self.given)
         mask: Optional[str] = None
         for word in rest:
@@ -197,6 +201,7 @@ class Options:
         return {"bandwidth": "bw", "flowset": "pipe"}.get(word, word)
 
     def value(self, option: str, text: str) -> str:
+        """Returns an option's value in dummynet's spelling."""
         if option == "delay":
             return text.removesuffix("msec")
         return {"bw": ipfw_bandwidth, "bandwidth": ipfw_bandwidth, "plr": loss_rate, "queue": self.limit}[option](text)
@@ -214,6 +219,8 @@ class Options:
         return f"{whole + bool(rest)}Kbytes"
 
     def mask(self, mask_field: str, text: str) -> str:
+        """Returns a flow mask's value in dummynet's spelling. LeftOut: the mask has a prefix length other than the whole
+        field's."""
         slash, whole = WHOLE_MASKS[mask_field]
         if text.startswith("/") and text != slash:
             raise LeftOut(f"{mask_field} {text}: write the bits as a number")
@@ -241,7 +248,7 @@ def loss_rate(text: str) -> str:
 
 
 def merge(notes: list[str], items: list[tuple[int, str]]) -> Iterator[str]:
-    """Yields the notes; each item precedes the note on its place."""
+    """Yields the notes and the items. The number in an item tells how many notes precede the item."""
     at = 0
     for place, note in items:
         yield from notes[at:place]
