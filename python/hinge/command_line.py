@@ -55,7 +55,7 @@ class Parser(argparse.ArgumentParser):
         self.foreign.clear()
         result = super()._parse_known_args(*words, **how)
         if self.foreign:
-            from hinge.foreign import of_options
+            from hinge.option_advice import of_options
 
             self.error(of_options(self.foreign, self.given, self.options()))
         for option, is_idle, where in self.rules:

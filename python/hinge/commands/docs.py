@@ -47,7 +47,7 @@ def page_named(folder: Path, name: str) -> str:
     key = MOVED.get(key, key)
     if key not in pages:
         from hinge.__main__ import COMMANDS  # which a wrong name alone needs, as the next
-        from hinge.foreign import WORDS
+        from hinge.foreign_words import WORDS
 
         near = [WORDS[word].page for word in [name.lower()] if word in WORDS] or difflib.get_close_matches(key, pages, 1)
         text = f"write hinge docs {near[0]}".rstrip() if near else "`hinge docs` names them."
