@@ -26,7 +26,7 @@ CUT, HOLD, CRASH, SKEW = ACTS = "cut", "hold", "crash", "skew"
 LINE = re.compile(r"(?P<link>\S.* > .*\S) packet (?P<packet>[1-9]\d{0,17}) (?:(?P<kind>lost|twice)|late (?P<ms>[1-9]\d{0,6})ms)")
 TIME = r"\d{1,9}(?:\.\d{1,9})?(?:ms|s)"
 ACT = re.compile(rf"at (?P<moment>{TIME}) (?P<kind>{'|'.join(ACTS)}) (?P<of>\S(?:.*\S)?) (?P<sign>[+-]?)(?P<length>{TIME})")
-LATEST = 3_600_000  # ms that a pipe can delay
+LATEST = 3_600_000  # the most ms that a pipe can delay a packet
 FAULT_ADVICE = (  # what people write, and the line that says it
     (r"(?:lose|drop) (.*)", r"\1 lost"),
     (r"(?!packet)(\w+)(?: ?[-=]?> ?| to | )(?!packet)([A-Za-z]\w*) (?:packet )?(\d.*)", r"\1 > \2 packet \3"),
@@ -49,7 +49,8 @@ class Fault:
     ms: int = 0  # the delay if the packet is late
 
     def __str__(self) -> str:
-        return f"{self.link} packet {self.packet} {self.kind}{f' {self.ms}ms' if self.kind == IS_LATE else ''}"
+        delay = f" {self.ms}ms" if self.kind == IS_LATE else ""
+        return f"{self.link} packet {self.packet} {self.kind}{delay}"
 
 
 @dataclass(frozen=True, order=True)
@@ -82,9 +83,16 @@ def seconds_of(text: str) -> float:
 def read_act(line: str) -> Act:
     """Returns the act that a line describes. ValueError: the line is malformed."""
     match = ACT.fullmatch(line)
-    if match is None or (match["kind"] == SKEW) != bool(match["sign"]) or match["kind"] in (CRASH, SKEW) and " > " in match["of"]:
+    if match is None:
         raise ValueError(f"{line!r}: {NO_FAULT}")
-    seconds = seconds_of(match["length"]) * (-1 if match["sign"] == "-" else 1)
+    has_sign = bool(match["sign"])
+    is_skew = match["kind"] == SKEW
+    is_of_host = match["kind"] in (CRASH, SKEW)
+    if has_sign != is_skew or (is_of_host and " > " in match["of"]):
+        raise ValueError(f"{line!r}: {NO_FAULT}")
+    seconds = seconds_of(match["length"])
+    if match["sign"] == "-":
+        seconds = -seconds
     return Act(seconds_of(match["moment"]), match["kind"], match["of"], seconds)
 
 
@@ -94,8 +102,9 @@ def read_fault(line: str) -> Either:
     if match is None and line.startswith("at "):
         return read_act(line)
     if match is None or int(match["ms"] or 0) > LATEST:
-        meant = line_meant(line, FAULT_ADVICE)
-        raise ValueError(f"{line!r}: {f'not a fault; write {meant}' if LINE.fullmatch(meant) else NO_FAULT}")
+        right = line_meant(line, FAULT_ADVICE)
+        advice = f"not a fault; write {right}" if LINE.fullmatch(right) else NO_FAULT
+        raise ValueError(f"{line!r}: {advice}")
     return Fault(match["link"], int(match["packet"]), match["kind"] or IS_LATE, int(match["ms"] or 0))
 
 
@@ -110,12 +119,12 @@ class Faults(Tuple[Either, ...]):
     @property
     def packets(self) -> List[Fault]:
         """Returns the faults of packets."""
-        return [it for it in self if isinstance(it, Fault)]
+        return [fault for fault in self if isinstance(fault, Fault)]
 
     @property
     def acts(self) -> List[Act]:
         """Returns the acts on hosts and links."""
-        return [it for it in self if isinstance(it, Act)]
+        return [act for act in self if isinstance(act, Act)]
 
     def __repr__(self) -> str:
         return f"Faults({', '.join(repr(str(fault)) for fault in self)})"

@@ -51,8 +51,8 @@ class FaultyNetwork(Network):
 
     def act(self, act: Act) -> Disturbance:
         """Does an act now, and returns its disturbance. ValueError: there is no such host or link."""
-        do = {CUT: self.cut, HOLD: self.hold, CRASH: self.crash, SKEW: self.skew}[act.kind]
-        return do(act.of, act.seconds)
+        disturb = {CUT: self.cut, HOLD: self.hold, CRASH: self.crash, SKEW: self.skew}[act.kind]
+        return disturb(act.of, act.seconds)
 
     def of_link(self, name: str, kind: str) -> dict[int, int]:
         """Returns a link's packets with faults of this kind, with their delays in ms."""
@@ -71,29 +71,31 @@ class FaultyNetwork(Network):
     def drawn_of(self, link: Link) -> tuple[Optional[LateOf], Optional[IsTwice]]:
         if self.chosen is None:
             return super().drawn_of(link)
-        late, twice = (self.of_link(link.name, kind) for kind in (IS_LATE, IS_TWICE))
-        return (lambda number: late.get(number, 0)) if late else None, twice.__contains__ if twice else None
+        late = self.of_link(link.name, IS_LATE)
+        twice = self.of_link(link.name, IS_TWICE)
+        delay_of: Optional[LateOf] = (lambda number: late.get(number, 0)) if late else None
+        return delay_of, twice.__contains__ if twice else None
 
     def faults_met(self) -> list[Either]:
         """Returns what happened to packets, as faults: the losses and copies in order of time, then the delays in order of
         links."""
-        faults = [
-            Fault(link.name, number, kind, link.late.get(number, 0) * (kind == IS_LATE)) for link, kind, number in self.happened
-        ]
-        return [*(it for it in faults if it.kind != IS_LATE), *sorted(it for it in faults if it.kind == IS_LATE)]
+        faults = [Fault(link.name, number, kind) for link, kind, number in self.happened if kind != IS_LATE]
+        late = [Fault(link.name, number, kind, link.late.get(number, 0)) for link, kind, number in self.happened if kind == IS_LATE]
+        return [*faults, *sorted(late)]
 
     def unmet(self) -> Faults:
         """Returns the faults whose packets never came to their links, and the acts that weren't done or had no effect."""
         faults = Faults() if self.chosen is None else self.chosen
-        came = {it.name: it.came for it in self.links.values()}
-        packets = (it for it in faults.packets if came.get(it.link, 0) < it.packet)
-        return Faults(*packets, *(it for it in faults.acts if it not in self.acted or not self.acted[it].met))
+        counts = {link.name: link.came for link in self.links.values()}
+        packets = [fault for fault in faults.packets if counts.get(fault.link, 0) < fault.packet]
+        acts = [act for act in faults.acts if act not in self.acted or not self.acted[act].met]
+        return Faults(*packets, *acts)
 
     def unmet_faults(self) -> list[str]:
         """Returns a message for each fault whose link is missing and each refused act. Unless the faults are drawn, adds a message
         for each fault whose packet never came, and each act whose moment never came."""
         lines = super().unmet_faults()
-        names = [it.name for it in self.links.values()]
+        names = [link.name for link in self.links.values()]
         is_drawn = isinstance(self.chosen, Drawn)
         unmet = self.unmet()
         for fault in unmet.packets:
@@ -102,8 +104,10 @@ class FaultyNetwork(Network):
             elif not is_drawn:
                 lines.append(f"{fault}: it came to no packet")
         lines += [f"{act}: {text}" for act, text in self.refused_acts.items()]
-        behind = [act for act in unmet.acts if act not in self.acted and act not in self.refused_acts and not is_drawn]
-        return lines + [f"{act}: the run ended before, at {self.loop.time():.6f} s" for act in behind]
+        if not is_drawn:
+            later = [act for act in unmet.acts if act not in self.acted and act not in self.refused_acts]
+            lines += [f"{act}: the run ended before, at {self.loop.time():.6f} s" for act in later]
+        return lines
 
 
 def run(main: Coroutine[Any, Any, T], faults: Iterable[Either], *, seed: int = 1, timeout: Optional[float] = None) -> T:
@@ -135,7 +139,7 @@ def some_faults(*links: str, packets: int = 60, hosts: Sequence[str] = (), secon
         strategies.lists(strategies.sampled_from((False, True, True, True)), min_size=1, max_size=MOST_OF_TRAIN),
     )
     several = strategies.lists(trains, max_size=MOST_TRAINS)
-    of_packets = several.map(lambda them: Drawn(*sorted({fault for one in them for fault in one})))
+    of_packets = several.map(lambda trains: Drawn(*sorted({fault for train in trains for fault in train})))
     if not seconds:
         return of_packets
     targets = [(kind, link) for link in links for kind in (CUT, HOLD)] + [(kind, host) for host in hosts for kind in ACTS]

@@ -53,7 +53,7 @@ class Queue:
 Setting = Union[Pipe, Queue]
 
 
-RECORD = "c,0,configure,"
+RECORD = "c,0,configure,"  # how a history's record of a configuration line begins
 
 
 def setting_of(text: str) -> tuple[str, int, Optional[Setting]]:
@@ -63,13 +63,20 @@ def setting_of(text: str) -> tuple[str, int, Optional[Setting]]:
     if words[1] == "delete":
         return words[0], int(words[2]), None
     number = int(words[1])
-    value = dict(zip(words[3:], words[4:]))
-    size = value.get("queue", "50")
-    limit = Limit(None, int(size[:-6])) if size.endswith("Kbytes") else Limit(int(size), None)
-    loss = int(Fraction(value.get("plr", "0")) * LOSS_PARTS)  # the whole part, as the program keeps it
+    values = dict(zip(words[3:], words[4:]))
+    limit = limit_of(values.get("queue", "50"))
+    loss = int(Fraction(values.get("plr", "0")) * LOSS_PARTS)  # the whole part, as the program keeps it
     if words[0] == "pipe":
-        return "pipe", number, Pipe(number, int(value.get("bw", "0bit/s")[:-5]), int(value.get("delay", 0)), limit, loss)
-    return "queue", number, Queue(number, int(value["pipe"]), int(value.get("weight", 1)), limit, loss)
+        bandwidth = int(values.get("bw", "0bit/s").removesuffix("bit/s"))
+        return "pipe", number, Pipe(number, bandwidth, int(values.get("delay", 0)), limit, loss)
+    return "queue", number, Queue(number, int(values["pipe"]), int(values.get("weight", 1)), limit, loss)
+
+
+def limit_of(text: str) -> Limit:
+    """Returns the limit in a text such as `50` or `64Kbytes`."""
+    if text.endswith("Kbytes"):
+        return Limit(None, int(text.removesuffix("Kbytes")))
+    return Limit(int(text), None)
 
 
 def spelled_lines(data: bytes) -> list[str]:
