@@ -47,9 +47,10 @@ def one_way(option: str, value: str) -> tuple[list[str], str]:
     """Returns what to write in place of an option, as alternatives, and the option's value. If the value begins with a direction,
     as in up:20ms, both are for this direction alone."""
     form = OPTIONS[option][0]
-    (way, colon, rest) = value.partition(":")
+    way, colon, rest = value.partition(":")
     if colon and way in ("up", "down"):
-        form = re.sub(rf"--{'down' if way == 'up' else 'up'}\S+ \S+ ?", "", form).strip()
+        other = "down" if way == "up" else "up"
+        form = re.sub(rf"--{other}\S+ \S+ ?", "", form).strip()
         form = form.replace("--link ", f"--{way} ").replace("s outage ", f"s {way} outage ")
         value = rest
     return form.split(", or "), value
@@ -57,6 +58,5 @@ def one_way(option: str, value: str) -> tuple[list[str], str]:
 
 def filled(form: str, words: str) -> str:
     """Returns the form with the value, or with an example in each place for another kind of value."""
-    return form.format(
-        words, **{kind: words if re.fullmatch(pattern, words) else example for kind, (pattern, example) in KINDS.items()}
-    )
+    values = {kind: words if re.fullmatch(pattern, words) else example for kind, (pattern, example) in KINDS.items()}
+    return form.format(words, **values)

@@ -33,11 +33,19 @@ def program_named(variable: str, name: str, *in_repository: str) -> str:
     """Returns the path of the program that an environment variable names, or else the first path in `places`. Fault: no program
     is there."""
     path = os.environ.get(variable)
-    for place in [path] if path else places(name, *in_repository):
-        if place and os.path.isfile(place) and os.access(place, os.X_OK):
+    if path:
+        if is_program(path):
+            return path
+        raise Fault(f"{variable} names {path}, which isn't a program", MISSING)
+    for place in places(name, *in_repository):
+        if place is not None and is_program(place):
             return place
-    lack = f"there is no program {name}: the variable {variable} can name it"
-    raise Fault(f"{variable} names {path}, which isn't a program" if path else lack, MISSING)
+    raise Fault(f"there is no program {name}: the variable {variable} can name it", MISSING)
+
+
+def is_program(path: str) -> bool:
+    """Returns whether a path names a file that this user can execute."""
+    return os.path.isfile(path) and os.access(path, os.X_OK)
 
 
 def dummynet() -> str:

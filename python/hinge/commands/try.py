@@ -23,12 +23,17 @@ from hingetulip_words.presets import preset
 WHAT = """\
 Downloads 3 MB over the link of a preset, by a simple TCP of ours, in simulated time: no root, no other package and no other
 program. Draws what arrived, how many packets waited, and where some were dropped, and tells of one packet why it took so long."""
-UP, DOWN = 1, 2  # pipes
-SEGMENTS, SEGMENT, ACK = 2000, 1500, 52  # how many, and bytes
-DUPLICATES = 3  # packets that came later, from which a packet counts as lost
-TIMEOUT, SECOND = 10**9, 10**9  # ns
-STEPS, HEIGHT = 64, 4
-ENDS = (0x0A080001, 40000), (0x0A080002, 80)  # the client's and the server's address and port
+UP, DOWN = 1, 2  # the numbers of the pipes
+SEGMENTS = 2000  # the number of segments to download
+SEGMENT = 1500  # bytes of a segment
+ACK = 52  # bytes of an acknowledgement
+DUPLICATES = 3  # a segment counts as lost if more than so many later ones overtook it
+SECOND = 10**9  # ns
+TIMEOUT = SECOND  # ns
+STEPS = 64  # columns of the picture
+HEIGHT = 4  # lines of a panel
+CLIENT = (0x0A080001, 40000)  # address and port
+SERVER = (0x0A080002, 80)
 
 
 class Sender:
@@ -36,25 +41,27 @@ class Sender:
     loss, once for all packets under way."""
 
     def __init__(self) -> None:
-        self.window = 10.0
-        self.threshold = float("inf")
-        self.sent = 0
-        self.halved_till = 0
+        self.window = 10.0  # segments that may be under way
+        self.threshold = float("inf")  # the window above which it grows slowly
+        self.sent = 0  # the number of sent segments, repeated ones included
+        self.halved_till = 0  # segments sent before this place cause no further halving
         self.waiting = deque(range(SEGMENTS))
         self.under_way: dict[int, int] = {}  # segments, and their places in the order of sending
-        self.newest = -1
+        self.newest = -1  # the last place in the order of sending that arrived
 
     def next(self) -> Optional[int]:
         """Returns the next segment to send; None if no segment waits, or the window has no room."""
         if not self.waiting or len(self.under_way) >= self.window:
             return None
         segment = self.waiting.popleft()
-        self.under_way[segment], self.sent = self.sent, self.sent + 1
+        self.under_way[segment] = self.sent
+        self.sent += 1
         return segment
 
     def acknowledged(self, segments: Sequence[int]) -> None:
         """Opens the window for each segment that has arrived, and repeats the segments that later ones overtook."""
-        for place in (self.under_way.pop(segment) for segment in segments if segment in self.under_way):
+        new = [segment for segment in segments if segment in self.under_way]
+        for place in map(self.under_way.pop, new):
             self.window += 1 if self.window < self.threshold else 1 / self.window
             self.newest = max(self.newest, place)
         self.lose([segment for segment, place in self.under_way.items() if place < self.newest - DUPLICATES])
@@ -73,11 +80,11 @@ class Download:
     """Emulates the download. All segments go down, and for each an acknowledgement with the number of arrived segments comes up."""
 
     def __init__(self, path: Path, links: tuple[str, str]) -> None:
-        from hingetulip.recorded import RecordedShaper  # the library, without which there is still a help
+        from hingetulip.recorded import RecordedShaper  # a help doesn't need this library, which may be missing
 
         self.sender = Sender()
-        self.came = list[int]()
-        self.moment = 0
+        self.arrived = list[int]()  # segments
+        self.moment = 0  # ns
         self.carried: dict[int, tuple[int, int]] = {}  # the pipe and the content, by the number of the packet
         self.shaper = RecordedShaper(path, seed=1)
         for number, words in zip((UP, DOWN), links):
@@ -85,7 +92,7 @@ class Download:
 
     def submit(self, pipe: int, length: int, content: int) -> None:
         """Submits a packet to a pipe, and keeps the packet's content until the packet leaves the pipe."""
-        (src, sport), (dst, dport) = ENDS if pipe == UP else ENDS[::-1]
+        (src, sport), (dst, dport) = (CLIENT, SERVER) if pipe == UP else (SERVER, CLIENT)
         fate = self.shaper.submit(self.moment, length, pipe=pipe, proto=6, src=src, dst=dst, sport=sport, dport=dport)
         if fate.packet is not None:
             self.carried[fate.packet] = pipe, content
@@ -93,10 +100,10 @@ class Download:
     def came_out(self, pipe: int, content: int) -> None:
         """Hands a packet that left a pipe to its receiver: a segment to the client, or an acknowledgement to the server."""
         if pipe == DOWN:
-            self.came.append(content)
-            self.submit(UP, ACK, len(self.came))
+            self.arrived.append(content)
+            self.submit(UP, ACK, len(self.arrived))
         else:
-            self.sender.acknowledged(self.came[:content])
+            self.sender.acknowledged(self.arrived[:content])
 
     def run(self) -> None:
         """Downloads all segments, by going from each moment at which something happens on a link to the next. If nothing more
@@ -117,38 +124,52 @@ class Download:
 
 def drawn(name: str, values: list[float]) -> Iterator[str]:
     """Yields a text panel's lines: its name, and a column for each step."""
-    letters, most = f" {blocks()}", max(values)
+    most = max(values)
     yield f"{name}, at most {most:,.4g}:"
-    for low in range(HEIGHT - 1, -1, -1):
-        parts = (min(max(value / most * HEIGHT - low, 0), 1) for value in values)
-        yield f"  |{''.join(letters[math.ceil(part * (len(letters) - 1))] for part in parts)}".rstrip()
+    for low in reversed(range(HEIGHT)):
+        bars = "".join(bar(value / most * HEIGHT - low) for value in values)
+        yield f"  |{bars}".rstrip()
+
+
+def bar(height: float) -> str:
+    """Returns the letter of a bar that fills this part of a line; below 0 or above 1 the line is empty or full."""
+    letters = f" {blocks()}"
+    part = min(max(height, 0), 1)
+    return letters[math.ceil(part * (len(letters) - 1))]
 
 
 def picture(replay: Replay, span: int) -> Iterator[str]:
     """Yields the picture's lines: received bytes, the queue, and drops, over a replay of `span` ns."""
     step = span // STEPS + 1
     rates = [0.0] * STEPS
-    queues = [0.0] * STEPS
     drops = [" "] * STEPS
-    waiting = 0
+    waits = list[tuple[int, int]]()
     columns = (replay.event, replay.packets.length, replay.at, replay.start, replay.due)
-    rows = [row for row in zip(*(column.tolist() for column in columns)) if row[1] == SEGMENT]
-    for event, length, at, _, due in rows:
+    for event, length, at, start, due in zip(*(column.tolist() for column in columns)):
+        if length != SEGMENT:
+            continue  # an acknowledgement
         if event == OUT:
             rates[due // step] += length * 8000 / step
+            waits.append((at, start))
         else:
             drops[at // step] = "x"
-    changes = [(at, 1) for event, _, at, _, _ in rows if event == OUT] + [
-        (start, -1) for event, _, _, start, _ in rows if event == OUT
-    ]
+    yield from drawn("Mbit/s that arrive", rates)
+    yield from drawn("packets that wait for the link", longest_queues(waits, step))
+    yield f"drops: {replay.count(FULL):,} by a full queue, {replay.count(LOST):,} by the loss rate"
+    yield f"  |{''.join(drops)}".rstrip()
+    end = f"{span / SECOND:.2f} s"
+    yield f"  0 s{end:>{STEPS - 2}}"
+
+
+def longest_queues(waits: list[tuple[int, int]], step: int) -> list[float]:
+    """Returns the most packets that wait at once in each step of the picture, from the beginnings and ends of all waits."""
+    queues = [0.0] * STEPS
+    changes = [(begin, 1) for begin, _ in waits] + [(end, -1) for _, end in waits]
+    waiting = 0
     for moment, change in sorted(changes):
         waiting += change
         queues[moment // step] = max(queues[moment // step], waiting)
-    yield from drawn("Mbit/s that arrive", rates)
-    yield from drawn("packets that wait for the link", queues)
-    yield f"drops: {replay.count(FULL):,} by a full queue, {replay.count(LOST):,} by the loss rate"
-    yield f"  |{''.join(drops)}".rstrip()
-    yield f"  0 s{f'{span / SECOND:.2f} s':>{STEPS - 2}}"
+    return queues
 
 
 def longest(replay: Replay) -> int:
@@ -162,16 +183,24 @@ def told(path: Path, name: str, links: tuple[str, str], kept: Optional[str]) -> 
     began = time.monotonic()
     transfer = Download(path, links)
     transfer.run()
-    replay = (source := read_history(str(path))).replay
+    source = read_history(str(path))
+    replay = source.replay
     row = longest(replay)
     yield f"3 MB come down over the preset {name}: {links[1]}.\nAcknowledgements go up over {links[0]}.\n"
     yield from picture(replay, transfer.moment)
     yield "\n" + filled(f"Why did packet {row} take so long? {Explainer(source.explained()).paragraph(row)}")
     yield f"\nThe answer took {time.monotonic() - began:.1f} s. What next:"
-    more = f"hinge look {kept} -o try.png" if kept else "hinge try --transcript try.history"
-    yield f"  {more:<44}  {'draws it' if kept else 'keeps what hinge look and hinge why read'}"
-    yield f"  {f'hinge run --preset {name} -- ping -c 3 server':<44}  puts any program behind that link"
-    yield f"  {'hinge doctor':<44}  says what works on this machine"
+    if kept:
+        yield next_line(f"hinge look {kept} -o try.png", "draws it")
+    else:
+        yield next_line("hinge try --transcript try.history", "keeps what hinge look and hinge why read")
+    yield next_line(f"hinge run --preset {name} -- ping -c 3 server", "puts any program behind that link")
+    yield next_line("hinge doctor", "says what works on this machine")
+
+
+def next_line(command: str, effect: str) -> str:
+    """Returns a line of the output with a command that the user may try next."""
+    return f"  {command:<44}  {effect}"
 
 
 def main() -> None:
