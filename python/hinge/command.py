@@ -56,7 +56,7 @@ def filled(text: str) -> str:
     return "\n\n".join(textwrap.fill(" ".join(part.split()), WIDTH - 1) for part in text.strip().split("\n\n"))
 
 
-def parser(what: str, example: str, statuses: str = STATUSES, usage: Optional[str] = None, words: str = "") -> Parser:
+def new_parser(what: str, example: str, statuses: str = STATUSES, usage: Optional[str] = None, words: str = "") -> Parser:
     """Returns a parser whose help describes the command and its options, followed by an example and the exit statuses. `words`
     describe a file's format, in separate lines."""
     from argparse import RawDescriptionHelpFormatter  # the list of commands doesn't need argparse

@@ -7,7 +7,7 @@ import os
 import sys
 from typing import Sequence
 
-from hinge.command import parser
+from hinge.command import new_parser
 from hinge.command_line import add, Parser
 from hinge.events.forms import help_lines
 from hinge.foreign_options import OF_LINK
@@ -61,27 +61,27 @@ the links broke off; 76 two runs by --twice differ; 77 a deadlock, and 78 it was
 
 
 def options() -> Parser:
-    line = parser(WHAT, EXAMPLE, STATUSES, USAGE, WORDS)
-    line.add_argument("file", metavar="FILE", help="the net")
-    line.add_argument("--transcript", metavar="FILE", help="the history of all links, for `dummynet audit` and `hinge look`")
-    line.add_argument("--transcripts", metavar="FOLDER", help="a folder for the history, net.history, and the summary, net.json")
-    line.add_argument("--json", metavar="FILE", help="the summary for a program")
-    line.add_argument("--logs", metavar="FOLDER", help="what each host prints, in NAME.log")
+    parser = new_parser(WHAT, EXAMPLE, STATUSES, USAGE, WORDS)
+    parser.add_argument("file", metavar="FILE", help="the net")
+    parser.add_argument("--transcript", metavar="FILE", help="the history of all links, for `dummynet audit` and `hinge look`")
+    parser.add_argument("--transcripts", metavar="FOLDER", help="a folder for the history, net.history, and the summary, net.json")
+    parser.add_argument("--json", metavar="FILE", help="the summary for a program")
+    parser.add_argument("--logs", metavar="FOLDER", help="what each host prints, in NAME.log")
     late = "status 75 where more than 1 of 100 packets of a way was late or unread by more, or the system dropped any"
-    line.add_argument("--late", metavar="TIME", help=late)
-    line.add_argument("--seed", metavar="N", type=seed, help="of what is drawn, for each way by itself (drawn, and told)")
-    line.add_argument("--mtu", metavar="BYTES", type=mtu, default=1500, help="of all interfaces (1500)")
-    line.add_argument("--end-wait", metavar="TIME", default="2s", help="how long commands have to end after SIGTERM (2s)")
-    add_staying(line)
-    line.add_argument("--quiet", action="store_true", help="no summary of the links")
+    parser.add_argument("--late", metavar="TIME", help=late)
+    parser.add_argument("--seed", metavar="N", type=seed, help="of what is drawn, for each way by itself (drawn, and told)")
+    parser.add_argument("--mtu", metavar="BYTES", type=mtu, default=1500, help="of all interfaces (1500)")
+    parser.add_argument("--end-wait", metavar="TIME", default="2s", help="how long commands have to end after SIGTERM (2s)")
+    add_staying(parser)
+    parser.add_argument("--quiet", action="store_true", help="no summary of the links")
     realtime = "the links before all other programs, where the system allows"
-    add(line, "--realtime", realtime, action=argparse.BooleanOptionalAction, default=True)
-    line.add_argument("--dry-run", action="store_true", help="prints hosts, addresses and links, and starts nothing")
-    line.yields("--outside", "--outside-loopback")
-    line.yields("--stay", "--while-open")
-    add_simulated(line)
-    add_foreign(line, OF_RUN)
-    return line
+    add(parser, "--realtime", realtime, action=argparse.BooleanOptionalAction, default=True)
+    parser.add_argument("--dry-run", action="store_true", help="prints hosts, addresses and links, and starts nothing")
+    parser.yields("--outside", "--outside-loopback")
+    parser.yields("--stay", "--while-open")
+    add_simulated(parser)
+    add_foreign(parser, OF_RUN)
+    return parser
 
 
 def add_staying(parser: argparse.ArgumentParser) -> None:
@@ -98,21 +98,22 @@ def add_staying(parser: argparse.ArgumentParser) -> None:
 def descriptor(text: str) -> int:
     """Returns an open file's descriptor, which the net's programs don't inherit. ArgumentTypeError: there is no such open file."""
     try:
-        os.set_inheritable(int(text), False)
-        return int(text)
+        number = int(text)
+        os.set_inheritable(number, False)
+        return number
     except (ValueError, OSError, OverflowError):
         raise argparse.ArgumentTypeError(f"{text!r} isn't an open descriptor") from None
 
 
 def command_line(words: Sequence[str]) -> NetOptions:
     """Returns the options; their field `command` is the main command, which comes after `--`."""
-    at = words.index("--") if "--" in words else len(words)
-    return NetOptions(**vars(options().parse_args(words[:at])), command=list(words[at + 1 :]))
+    end = words.index("--") if "--" in words else len(words)
+    return NetOptions(**vars(options().parse_args(words[:end])), command=list(words[end + 1 :]))
 
 
 def main() -> None:
     with repeated_net(sys.argv[1:]) as words:
         arguments = command_line(words)
-        from hinge.net.begun import run  # behind the command line, since a help has to come at once
+        from hinge.net.begun import run  # not at the top, because a help must not wait for this module
 
         run(arguments)

@@ -12,7 +12,7 @@ from typing import Iterator, Optional, Sequence
 
 from hinge.border.scratch import scratch
 from hinge.border.terminal import blocks, show
-from hinge.command import filled, parser
+from hinge.command import filled, new_parser
 from hinge.outputs import written
 from hinge.replays.explain import Explainer
 from hinge.replays.history import read_history
@@ -60,8 +60,10 @@ class Sender:
 
     def acknowledged(self, segments: Sequence[int]) -> None:
         """Opens the window for each segment that has arrived, and repeats the segments that later ones overtook."""
-        new = [segment for segment in segments if segment in self.under_way]
-        for place in map(self.under_way.pop, new):
+        for segment in segments:
+            if segment not in self.under_way:
+                continue  # acknowledged before, or lost
+            place = self.under_way.pop(segment)
             self.window += 1 if self.window < self.threshold else 1 / self.window
             self.newest = max(self.newest, place)
         self.lose([segment for segment, place in self.under_way.items() if place < self.newest - DUPLICATES])
@@ -204,14 +206,14 @@ def next_line(command: str, effect: str) -> str:
 
 
 def main() -> None:
-    line = parser(WHAT, "hinge try\n  hinge try --preset 3g --transcript try.history")
-    line.add_argument("--preset", metavar="NAME", default="lte", help="the link (lte); hinge run --list-presets has all")
-    line.add_argument("--transcript", metavar="FILE", help="keep the history, for hinge look and hinge why")
-    arguments = line.parse_args()
+    parser = new_parser(WHAT, "hinge try\n  hinge try --preset 3g --transcript try.history")
+    parser.add_argument("--preset", metavar="NAME", default="lte", help="the link (lte); hinge run --list-presets has all")
+    parser.add_argument("--transcript", metavar="FILE", help="keep the history, for hinge look and hinge why")
+    arguments = parser.parse_args()
     try:
         link = preset(arguments.preset)
     except ValueError as wrong:
-        line.error(str(wrong))
+        parser.error(str(wrong))
     with scratch() as place:
         path = place / "history"
         for text in told(path, arguments.preset, (link.up, link.down), arguments.transcript):

@@ -14,7 +14,7 @@ from typing import NamedTuple
 from hinge.arguments import is_number
 from hinge.border.terminal import show
 from hinge.checks.lines import refuse_wrong
-from hinge.command import FILES, parser
+from hinge.command import FILES, new_parser
 from hinge.command_line import add, Parser
 from hinge.replays.units import socket_address
 from hinge.run.host import Link, program
@@ -54,20 +54,22 @@ class SocketAddress(NamedTuple):
         host, _, port = text.rpartition(":")
         if not (is_number(port) and int(port) < 65536):
             raise argparse.ArgumentTypeError(f"{text!r} is neither PORT nor HOST:PORT")
-        return cls(host[1:-1] if host.startswith("[") and host.endswith("]") else host, int(port))
+        if host.startswith("[") and host.endswith("]"):
+            host = host[1:-1]
+        return cls(host, int(port))
 
 
 def found_address(address: SocketAddress, family: int) -> tuple[int, tuple[str, int]]:
     """Returns the family, numeric host and port of an address; `family` 0 allows any family. Wrong: there is no such address."""
+    loopback = "::1" if family == socket.AF_INET6 else "127.0.0.1"
     try:
-        infos = socket.getaddrinfo(
-            address.host or ("::1" if family == socket.AF_INET6 else "127.0.0.1"), address.port, family, socket.SOCK_DGRAM
-        )
+        infos = socket.getaddrinfo(address.host or loopback, address.port, family, socket.SOCK_DGRAM)
     except socket.gaierror as fault:
-        other = " of the family of LISTEN" if family else ""
-        raise Wrong(f"{address.host}: no address{other}: {fault.strerror}") from None
-    choice = min(infos, key=lambda info: info[0] != socket.AF_INET)  # localhost is 127.0.0.1, where the family is open
-    return choice[0], (str(choice[4][0]), int(choice[4][1]))
+        condition = " of the family of LISTEN" if family else ""
+        raise Wrong(f"{address.host}: no address{condition}: {fault.strerror}") from None
+    info = min(infos, key=lambda info: info[0] != socket.AF_INET)  # IPv4 first, so that localhost is 127.0.0.1
+    host, port = info[4][:2]
+    return info[0], (str(host), int(port))
 
 
 def links_in_order(words: list[str]) -> list[str]:
@@ -76,26 +78,26 @@ def links_in_order(words: list[str]) -> list[str]:
     lines = list[str]()
     for word in words:
         link = None if os.path.exists(word) else corrected(word, Place.RUN)
-        if " " in word and not link:
-            new = word.splitlines()
-            refuse_wrong(new, [0] * len(new), "", "LINK")
-        elif link:
+        if link:
             raise Wrong(f"LINK: {word!r} isn't a line or a file of lines; write --link {shlex.quote(link)}")
+        if " " in word:
+            lines_of_word = word.splitlines()
+            refuse_wrong(lines_of_word, [0] * len(lines_of_word), "", "LINK")
         else:
-            new = [*read_lines(word)]
-            refuse_wrong(new, range(1, len(new) + 1), word)
-        lines += new
+            lines_of_word = [*read_lines(word)]
+            refuse_wrong(lines_of_word, range(1, len(lines_of_word) + 1), word)
+        lines += lines_of_word
     return lines
 
 
 def options() -> Parser:
-    line = parser(WHAT, EXAMPLE, STATUSES, "hinge udp [OPTION ..] LISTEN SERVER [LINK ..]")
-    add(line, "listen LISTEN", "PORT or HOST:PORT to which the client sends; port 0 takes a free one", type=SocketAddress.read)
-    add(line, "server SERVER", "PORT or HOST:PORT of the server, of the same family", type=SocketAddress.read)
-    add(line, "links LINK", "a configuration line, or a file of such lines, as --line and --config", nargs="*", default=[])
-    add_link(line, OF_RUN)
-    add_run(line.add_argument_group("the run"))
-    return line
+    parser = new_parser(WHAT, EXAMPLE, STATUSES, "hinge udp [OPTION ..] LISTEN SERVER [LINK ..]")
+    add(parser, "listen LISTEN", "PORT or HOST:PORT to which the client sends; port 0 takes a free one", type=SocketAddress.read)
+    add(parser, "server SERVER", "PORT or HOST:PORT of the server, of the same family", type=SocketAddress.read)
+    add(parser, "links LINK", "a configuration line, or a file of such lines, as --line and --config", nargs="*", default=[])
+    add_link(parser, OF_RUN)
+    add_run(parser.add_argument_group("the run"))
+    return parser
 
 
 def bound_socket(address: SocketAddress) -> socket.socket:
@@ -111,11 +113,15 @@ def bound_socket(address: SocketAddress) -> socket.socket:
 
 def what_is_carried(order: Order, front: socket.socket, server: tuple[str, int]) -> int:
     """Forwards datagrams between a socket and the server until a signal comes; returns the exit status."""
-    page, processes = Page(), Processes(SIGNALS)
-    control = order.control(page, lambda: record(page.read(), [way["dropped"] for way in page.read().ways], None, order.seed, []))
-    link = Link(
-        processes, page, ["udp", str(front.fileno()), server[0], str(server[1])], [front.fileno()], order.plan, order.mask, control
-    )
+    page = Page()
+    processes = Processes(SIGNALS)
+
+    def dropped() -> list[int]:
+        return [way["dropped"] for way in page.read().ways]
+
+    control = order.control(page, lambda: record(page.read(), dropped(), None, order.seed, []))
+    words = ["udp", str(front.fileno()), server[0], str(server[1])]
+    link = Link(processes, page, words, [front.fileno()], order.plan, order.mask, control)
     fault = link.failed()
     if fault is not None:
         return fault
@@ -128,7 +134,7 @@ def what_is_carried(order: Order, front: socket.socket, server: tuple[str, int])
     watch = Watch(page) if order.options.watch else None
     came = processes.wait(link.process, ticker=Ticker(watch.tick) if watch else None)
     link.end()
-    return report(order, page, [way["dropped"] for way in page.read().ways], FILES if came is None else 0)
+    return report(order, page, dropped(), FILES if came is None else 0)
 
 
 def main() -> None:
@@ -143,7 +149,7 @@ def main() -> None:
     order = order_of(LiveOptions(**arguments, line=lines, more_files=files), LONGEST, mask)
     if any(extra.corrupt for extra, _ in order.made.extras.values()):
         raise Wrong("corrupt: each datagram is sent with a checksum of its own, which no flipped bit breaks; write loss 1%")
-    signal.pthread_sigmask(signal.SIG_BLOCK, SIGNALS)  # once all files are read, which a FIFO may put off for ever
+    signal.pthread_sigmask(signal.SIG_BLOCK, SIGNALS)  # only now, since reading a file may wait for a FIFO's writer
     with bound_socket(listen) as front:
         if not server.port:
             raise Wrong("SERVER: no server listens at port 0; write the server's port")
