@@ -54,7 +54,7 @@ class FaultyNetwork(Network):
         disturb = {CUT: self.cut, HOLD: self.hold, CRASH: self.crash, SKEW: self.skew}[act.kind]
         return disturb(act.of, act.seconds)
 
-    def of_link(self, name: str, kind: str) -> dict[int, int]:
+    def packets_of(self, name: str, kind: str) -> dict[int, int]:
         """Returns a link's packets with faults of this kind, with their delays in ms."""
         faults = () if self.chosen is None else self.chosen.packets
         return {fault.packet: fault.ms for fault in faults if fault.link == name and fault.kind == kind}
@@ -62,7 +62,7 @@ class FaultyNetwork(Network):
     def link(self, near: Host, far: Host, options: Optional[str] = None, **more: Any) -> Link:
         if self.chosen is not None:
             name = f"{getattr(near, 'name', near)} > {getattr(far, 'name', far)}"
-            more.update(loss=Listed(self.of_link(name, IS_LOST)))
+            more.update(loss=Listed(self.packets_of(name, IS_LOST)))
         link = super().link(near, far, options, **more)
         if self.chosen is not None and not float(link.options.settings["plr"]):  # under which no word loses a packet
             link.change(f"{link.options.without('plr')} plr {BY_MODEL}")
@@ -71,8 +71,8 @@ class FaultyNetwork(Network):
     def drawn_of(self, link: Link) -> tuple[Optional[LateOf], Optional[IsTwice]]:
         if self.chosen is None:
             return super().drawn_of(link)
-        late = self.of_link(link.name, IS_LATE)
-        twice = self.of_link(link.name, IS_TWICE)
+        late = self.packets_of(link.name, IS_LATE)
+        twice = self.packets_of(link.name, IS_TWICE)
         delay_of: Optional[LateOf] = (lambda number: late.get(number, 0)) if late else None
         return delay_of, twice.__contains__ if twice else None
 

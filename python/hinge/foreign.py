@@ -13,10 +13,10 @@ from typing import Callable, Optional, Sequence
 from hinge.command import Fault
 from hinge.foreign_options import OF_LINK
 from hinge.foreign_words import EXAMPLE, EXAMPLES, WORDS, Answer, lacking
-from hingetulip_words.foreign import STRICT, Meant, quantity
+from hingetulip_words.foreign import STRICT, Meant, amount
 from hingetulip_words.link import LEFT_OUT, Place, corrected, in_full, link_before, read_link
 from hingetulip_words.presets import PRESETS
-from hingetulip_words.values import SHARES, plain_number
+from hingetulip_words.values import SHARES, decimal
 
 BOTH = ("--up", "--down")
 ONE_WAY = "it is one way, as in the original; --link is both"
@@ -69,9 +69,9 @@ def of_ipfw(words: Sequence[str]) -> Optional[Answer]:
     if own[:1] == ["sched"]:
         return lacking(own[:1])
     if "prob" in own[:-1]:
-        percentage = quantity(own[own.index("prob") + 1], "part")
+        percentage = amount(own[own.index("prob") + 1], "part")
         if percentage is not None:
-            return Answer(f"hinge run --link 'loss {plain_number(percentage)}%' -- COMMAND", "LINKS")
+            return Answer(f"hinge run --link 'loss {decimal(percentage)}%' -- COMMAND", "LINKS")
     return of_ipfw_verb(own)
 
 

@@ -18,7 +18,7 @@ from typing import Callable, Collection, Optional, Protocol, Union
 
 from hinge.captures.random_words import word
 from hinge.run.words import WAYS, Wrong
-from hingetulip_words.values import plain_number
+from hingetulip_words.values import decimal
 
 LOST = 0  # the word that each loss rate above 0 loses
 KEPT = (1 << 31) - 1  # the word that only the loss rate 1 loses
@@ -217,7 +217,7 @@ def rate_of(text: str) -> str:
         return ""
     rate = Fraction(match[1])
     is_percentage = match[2] or rate > 1
-    return plain_number(rate if is_percentage else rate * 100) + "%"
+    return decimal(rate if is_percentage else rate * 100) + "%"
 
 
 def loss_lines(text: str, link: int = 0) -> dict[int, str]:

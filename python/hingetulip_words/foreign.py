@@ -7,7 +7,7 @@ import re
 from fractions import Fraction
 from typing import Mapping, Optional, Sequence, Union
 
-from hingetulip_words.values import EXTRAS, MORE_SCALES, SHARES, TIMES, plain_number, scaled
+from hingetulip_words.values import EXTRAS, MORE_SCALES, SHARES, TIMES, decimal, scaled
 
 # Tools, each with the way that it slows, and its words, which stand before `=` and their values in their order: PROPERTY:UNIT, `!NAME`
 # for one that no link has, a lone `!` for all values of a word that none has, `-` for one of no concern; `>WAY` turns to another way.
@@ -36,14 +36,12 @@ mn both; bw = bw:mbit; delay = delay:us; jitter = spread:us; loss = loss:%; max_
 ours both; rate bandwidth bw speed = bw:bits; delay latency = delay:ms; rtt = rtt:ms; plr = loss:part; {EXTRA_WORDS};
  loss packet-loss drop = loss:%; limit queue = queue:packets; target-bw = bw:kbit
 """  # ours: what people try as options of `hinge run`
-WAYS, TOOL_WORDS = dict[str, str](), dict[str, dict[str, list[str]]]()
+WAYS, TERMS = dict[str, str](), dict[str, dict[str, list[str]]]()
 for row in TABLE.replace("\n ", " ").strip().splitlines():
     tool, *entries = row.split(";")
     name, way = tool.split()
     WAYS[name] = way
-    TOOL_WORDS[name] = {
-        word: kinds.split() for words, _, kinds in (entry.partition("=") for entry in entries) for word in words.split()
-    }
+    TERMS[name] = {word: kinds.split() for words, _, kinds in (entry.partition("=") for entry in entries) for word in words.split()}
 # Tools whose words are lists, those that run a command, and those without names of other things.
 LISTS, WRAPPERS, STRICT = ("toxiproxy", "mn"), ("mahimahi", "trickle"), ("netem", "tbf", "htb", "cake")
 
@@ -66,7 +64,7 @@ UNIT_SCALES: dict[str, Mapping[str, Union[int, Fraction]]] = {
 }  # fmt: skip
 
 
-def quantity(text: str, unit: str) -> Optional[Fraction]:
+def amount(text: str, unit: str) -> Optional[Fraction]:
     """Returns the number in a text in ms, bit/s, bytes or percent; None without a number."""
     found = re.fullmatch(NUMBER, text.lower())
     scale = UNIT_SCALES[unit].get(found[2]) if found else None
@@ -83,7 +81,7 @@ class Meant:
     """The meaning of another tool's words. No link supports those in `left`; `rest` contains names and the command."""
 
     def __init__(self, tool: str, words: Sequence[str]) -> None:
-        self.tool, self.known, self.rest, self.left = tool, TOOL_WORDS[tool], list[str](), list[str]()
+        self.tool, self.known, self.rest, self.left = tool, TERMS[tool], list[str](), list[str]()
         self.ways: dict[str, dict[str, Fraction]] = {"both": {}, "up": {}, "down": {}}
         self.more, self.model = list[str](), list[Fraction]()  # options beside the link, and the rates of a model of losses
         self.words = [part for word in words for part in self.parts(word)]
@@ -123,7 +121,7 @@ class Meant:
             while self.is_value():
                 self.words.pop(0)
         elif kind[0] in "-!":
-            is_there = self.is_value() and (kind != "!correlation" or quantity(self.words[0], "%") is not None)
+            is_there = self.is_value() and (kind != "!correlation" or amount(self.words[0], "%") is not None)
             text = f"{kind[1:]} {self.words.pop(0)}" if is_there else ""
             if kind[0] == "!" and (text or kind == "!value"):
                 self.leave(text.replace("value", word) or word)
@@ -134,14 +132,14 @@ class Meant:
                 self.read()
             self.take_file(name, self.words.pop(0) if self.is_value() else "")
         else:
-            while self.is_value() and (value := quantity(self.words[0], unit)) is not None:
+            while self.is_value() and (value := amount(self.words[0], unit)) is not None:
                 self.put(name, value, self.words.pop(0))
                 if name != "model":
                     break
 
     def take_file(self, option: str, text: str) -> None:
         """Reads a direction's trace, where people also write a bandwidth."""
-        rate = None if text.isdigit() else quantity(text, "bits")
+        rate = None if text.isdigit() else amount(text, "bits")
         if rate is not None:
             self.ways[option.removesuffix("-trace")]["bw"] = rate
         elif text:
@@ -168,11 +166,11 @@ class Meant:
             link.append(in_units(bw))
             size = bw / 8000 * of["lasting"] if "lasting" in of else size
         if spread > delay:
-            self.leave(f"a jitter of {plain_number(spread)}ms, which is above the delay")
+            self.leave(f"a jitter of {decimal(spread)}ms, which is above the delay")
             spread = Fraction(0)
         for name, ms in (("", delay - spread), ("jitter ", of.get("jitter", 2 * spread))):
             if ms.denominator != 1:
-                self.leave(f"{name or 'delay '}{plain_number(ms)}ms, as a link has whole milliseconds")
+                self.leave(f"{name or 'delay '}{decimal(ms)}ms, as a link has whole milliseconds")
             elif ms or not name and "delay" in of:
                 link.append(f"{name}{ms}ms")
         if bw is None and self.tool in STRICT and (size or "queue" in of):
@@ -181,7 +179,7 @@ class Meant:
             link.append(f"queue {of['queue']}")
         elif size:
             link.append(f"queue {min(1024, max(1, math.ceil(size / 1024)))}Kbytes")
-        return " ".join([*link, *(f"{name} {plain_number(of[name])}%" for name in ("loss", *SHARES) if name in of)])
+        return " ".join([*link, *(f"{name} {decimal(of[name])}%" for name in ("loss", *SHARES) if name in of)])
 
     def options(self) -> list[str]:
         """Returns the options for `hinge run`; only a single way if the tool slows only that way."""
@@ -192,5 +190,5 @@ class Meant:
         if words["--up"] == words["--down"]:
             words = {"--link": words["--up"]}
         link = [part for option, text in words.items() if text for part in (option, text)]
-        rates = ",".join(plain_number(rate / 100) for rate in self.model[:4])
+        rates = ",".join(decimal(rate / 100) for rate in self.model[:4])
         return [*link, *self.more, *(["--loss", f"{WAYS[self.tool]}:gilbert:{rates}"] if len(self.model) > 1 else [])]

@@ -13,7 +13,7 @@ from hingetulip_words.foreign import Meant
 from hingetulip_words.presets import NEAREST, PRESETS
 from hingetulip_words.values import DELAY as DELAY_WORD
 from hingetulip_words.values import EXTRAS, FACTOR, FIELD_BITS, LONGEST_WORD, PER_SECOND, PERCENT, SHARES, TIMES
-from hingetulip_words.values import Advice, value_fault, plain_number, wrong_form
+from hingetulip_words.values import Advice, value_fault, decimal, wrong_form
 
 WHOLE_RATE = re.compile(rf"\d+{FACTOR}{PER_SECOND}", re.ASCII | re.IGNORECASE)
 WHOLE_DELAY = re.compile(r"\d+ms", re.ASCII)
@@ -216,7 +216,7 @@ class WordReader:
         part = Fraction(share[1]) / 100
         if part > 1:
             raise WordError(f"loss {text}", Advice("out of range", "a loss is 0% to 100%"))
-        return plain_number(part)
+        return decimal(part)
 
     def fields(self) -> str:
         """Returns the fields of a mask with their values."""
@@ -336,7 +336,7 @@ def refusal_of_change(begun: dict[str, str], changed: dict[str, str], place: str
     def spelled(options: dict[str, str]) -> str:
         texts = {name: f"{text}ms" if name == "delay" and text.isdigit() else text for name, text in options.items()}
         return " ".join(
-            f"loss {plain_number(Fraction(text) * 100)}%" if name == "plr" else as_words(name, text) for name, text in texts.items()
+            f"loss {decimal(Fraction(text) * 100)}%" if name == "plr" else as_words(name, text) for name, text in texts.items()
         )
 
     ended = {name: begun[name] for name in ENDED if name not in changed and re.search("[1-9]", begun.get(name, ""))}

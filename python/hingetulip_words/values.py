@@ -22,10 +22,8 @@ SCALE = {"": 1, "k": 10**3, "m": 10**6, "g": 10**9}
 FACTOR, PER_SECOND = f"[{''.join(SCALE)}]?", "(?:bits?|bytes?)/s"  # of a bandwidth
 MORE_SCALES = SCALE | {"t": 10**12}  # with those that people write
 BANDWIDTH = rf"(\d+(?:\.\d+)?)([{''.join(MORE_SCALES)}]?)i?(b|bit|bits|byte|bytes|bps|b/s|bit/sec|bits/sec|bit/s|bits/s|byte/s|bytes/s|byte/sec|)"
-TIME_UNITS = (
-    "ns=1/1000000 us,µs,usec,usecs=1/1000 ms,msec,msecs,milliseconds=1 s,sec,secs,second,seconds=1000 min,minute,minutes=60000"
-)
-TIMES = {name: Fraction(ms) for names, _, ms in (unit.partition("=") for unit in TIME_UNITS.split()) for name in names.split(",")}
+UNITS = "ns=1/1000000 us,µs,usec,usecs=1/1000 ms,msec,msecs,milliseconds=1 s,sec,secs,second,seconds=1000 min,minute,minutes=60000"
+TIMES = {name: Fraction(ms) for names, _, ms in (unit.partition("=") for unit in UNITS.split()) for name in names.split(",")}
 DELAY = rf"(-?)(\d+(?:\.\d+)?)({'|'.join(TIMES)})"
 ROOM = r"(\d+)(kib|mb|mbyte|mbytes|m|mib|b|byte|bytes|pkt|pkts|packet|packets|p|slots?|k|kb|kbytes?)"
 MOST_KBYTES = 1024
@@ -72,7 +70,7 @@ class Advice(NamedTuple):
     word: Optional[str] = None
 
 
-def plain_number(value: Fraction) -> str:
+def decimal(value: Fraction) -> str:
     """Returns a number in its shortest form without an exponent."""
     text = f"{int(value * 10**18):019d}"
     return f"{text[:-18]}.{text[-18:]}".rstrip("0").rstrip(".")
@@ -134,13 +132,13 @@ def loss(text: str) -> Advice:
     except (ValueError, ZeroDivisionError):
         return Advice("not a loss rate", FORMS["plr"])
     if found:
-        return Advice("a loss rate isn't a percentage", f"write {plain_number(value)}", plain_number(value))
+        return Advice("a loss rate isn't a percentage", f"write {decimal(value)}", decimal(value))
     if value > 1:
-        rate = plain_number(value / 100)
+        rate = decimal(value / 100)
         return Advice("a loss rate is at most 1", f"write {rate} for {text} %", rate if value <= 100 else None)
     if value < 0:
         return Advice("a loss rate can't be negative", FORMS["plr"])
-    return Advice("not a loss rate", f"write {plain_number(value)}", plain_number(value))
+    return Advice("not a loss rate", f"write {decimal(value)}", decimal(value))
 
 
 def mask_bits(text: str, width: int = 32) -> Optional[str]:

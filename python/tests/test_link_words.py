@@ -6,7 +6,7 @@ import re
 import unittest
 
 from hingetulip import LineError, Shaper, aio
-from hingetulip_words.foreign import quantity
+from hingetulip_words.foreign import amount
 from hingetulip_words.link import WordError, in_full, read_link
 from hingetulip_words.presets import PRESETS, preset, preset_table
 from hingetulip_words.values import EXTRAS
@@ -25,7 +25,7 @@ class Words(unittest.TestCase):
 
     def test_no_number_of_another_tool_has_thousands_of_digits(self) -> None:
         """Python converts at most 4,300."""
-        assert [quantity("9" * count + "ms", "ms") for count in (3, 5000)] == [999, None]
+        assert [amount("9" * count + "ms", "ms") for count in (3, 5000)] == [999, None]
 
     def test_the_emulator_takes_what_the_reader_takes_and_no_more(self) -> None:
         """The library decides on random words in full: the reader accepts each text that the library does, without repeated

@@ -22,6 +22,7 @@ from pathlib import Path
 from tempfile import TemporaryDirectory
 from typing import NamedTuple
 
+from dense import dense_lines
 from tally import TOP, Tally, judge
 
 import prose
@@ -139,6 +140,9 @@ def figures(top: Path, names: list[str]) -> dict[str, float]:
         "repeated in Rattle code": repeated(rattle),
         "repeated in Python": repeated(python),
         "repeated in C": repeated(c),
+        "dense statements": sum(
+            sum(1 for _ in dense_lines("\n".join(file.lines))) for file in [*python, *by_area["Python tests"]] if is_python(file)
+        ),
         "participles in the kit, %": share_of_participles(top / "python" / "hinge"),
         "participles in tools, %": share_of_participles(top / "tools"),
         "habits in pages": habits(top, [name for name in names if name.endswith(".md")]),

@@ -4,6 +4,7 @@ from __future__ import annotations
 
 import os
 import socket
+import stat
 import struct
 from contextlib import contextmanager
 from dataclasses import replace
@@ -55,7 +56,9 @@ def connected(path: str, patience: float = PATIENCE) -> Iterator[socket.socket]:
         except FileNotFoundError:
             raise Wrong(f"{path}: no run has this name{running()}") from None
         except OSError as error:
-            raise Wrong(f"{path}: {error.strerror or error}") from None
+            is_left = isinstance(error, ConnectionRefusedError) and os.path.exists(path) and stat.S_ISSOCK(os.stat(path).st_mode)
+            why = "its run was killed and left this socket, which may be removed" if is_left else error.strerror or error
+            raise Wrong(f"{path}: {why}") from None
 
 
 def asked_at(path: str, order: Order, patience: float = PATIENCE) -> tuple[Reply, list[int]]:

@@ -15,23 +15,21 @@ class Word(NamedTuple):
     effect: str
     ending: str = ""  # the word that ends it
     within: "tuple[str, ...]" = ()  # other faults of a host, during which it changes nothing
-    lacking: str = ""  # of a word that ends others: what doesn't go on where it is refused
+    none: str = ""  # of a word that ends others: what is missing where it is refused
     is_write: bool = False  # which the links make, on hosts with cgroups
     is_simulated: bool = False  # of simulated time alone
 
 
 LINK_WORDS = {
     "cut": Word("cut A [from B ..] [up|down] [tcp|udp port N] [LENGTH]", "its links lose all; `up`: what it sends", "heal"),
-    "heal": Word(
-        "heal A [from B ..] [up|down] [tcp|udp port N]", "no cut or lossy outage goes on", lacking="no cut of such a link"
-    ),
+    "heal": Word("heal A [from B ..] [up|down] [tcp|udp port N]", "no cut or lossy outage goes on", none="no cut of such a link"),
 }
 ACTS = {
     "kill": Word("kill HOST [LENGTH]", "all that runs there ends", "restart", ("crash",), is_write=True),
     "crash": Word("crash HOST [LENGTH]", "a kill that loses what isn't synced", "restart", is_simulated=True),
     "restart": Word("restart HOST", "its command begins again"),
     "stop": Word("stop HOST [LENGTH]", "all that runs there stands still", "cont", ("kill", "crash"), is_write=True),
-    "cont": Word("cont HOST", "it goes on", lacking="no stop of such a host", is_write=True),
+    "cont": Word("cont HOST", "it goes on", none="no stop of such a host", is_write=True),
     "skew": Word("skew HOST +2s [100ppm]", "its clock, in simulated time", is_simulated=True),
 }
 WORDS = LINK_WORDS | ACTS

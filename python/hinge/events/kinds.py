@@ -11,7 +11,6 @@ from hinge.events.forms import ACTS, WORDS
 from hinge.run.words import LAST_MOMENT, SECOND
 from hingetulip_words.link import LinkWords
 
-
 ENDINGS = {word.ending for word in WORDS.values() if word.ending}
 
 

@@ -10,7 +10,7 @@ from hinge.events.kinds import Event, HoldingOutage, LossyOutage, NewLine, NewWo
 from hinge.run.words import WAYS, Wrong, bare, first_word, is_line, length_of, link_of
 from hingetulip_words.link import NO_WORDS
 
-WordsOfWays = Callable[[str], "tuple[str, str]"]
+TwoWays = Callable[[str], "tuple[str, str]"]
 
 
 def read_port(words: "list[str]") -> Optional[Port]:
@@ -28,9 +28,7 @@ def alike(text: str) -> "tuple[str, str]":
     return text, text
 
 
-def link_event(
-    text: str, option: str, ends: str = "", link: int = 0, is_back: bool = False, both_ways: WordsOfWays = alike
-) -> Event:
+def link_event(text: str, option: str, ends: str = "", link: int = 0, is_back: bool = False, both_ways: TwoWays = alike) -> Event:
     """Returns the event of `[up|down] LINK`, `[up|down] outage LENGTH [lossy]` or a configuration line. If `is_back`, the words
     name the link's second end first. Wrong: the text isn't a link's event; `option` is its place."""
     text, typed = bare(text), bare(f"{ends} {text}")

@@ -198,8 +198,8 @@ class NetPlan:
         """Wrong: a heal ends no cut that goes on then, or a cont no stop."""
         ends = {end for _, end in fault_ends(self.events)}
         for place, (one, statement) in enumerate(zip(self.events, self.lines_at)):
-            if place not in ends and (word := WORDS.get(one.event.word)) and word.lacking:
-                raise Wrong(f"{statement.place}: {one.event.word!r}: {word.lacking} goes on then")
+            if place not in ends and (word := WORDS.get(one.event.word)) and word.none:
+                raise Wrong(f"{statement.place}: {one.event.word!r}: {word.none} goes on then")
 
     def judge(self) -> None:
         """Lets the emulator check all lines in order before anything starts. Unobeyed: it rejects a line."""

@@ -98,7 +98,7 @@ class NetEnds:
     def at_end(self, name: str, link: int) -> Addresses:
         return end_addresses(*self.place_of_end(name, link))
 
-    def of_link(self, name: str, link: int) -> str:
+    def link_local(self, name: str, link: int) -> str:
         """Returns the link-local address of an end."""
         return f"fe80::{self.place_of_end(name, link)[1] + 1:x}"
 
@@ -106,7 +106,7 @@ class NetEnds:
         """Returns the next router's IPv4 and IPv6 addresses if the route begins at a switch."""
         if hop.host == to or (hop.host_link, hop.host) not in self.ports:
             return None, None
-        return self.at_end(hop.host, hop.host_link).four, self.of_link(hop.host, hop.host_link)
+        return self.at_end(hop.host, hop.host_link).four, self.link_local(hop.host, hop.host_link)
 
     def all_of(self, name: str) -> list[str]:
         return [*self.own[name], *(text for link, _ in self.links[name] for text in self.at_end(name, link))]
@@ -184,7 +184,7 @@ class NetRooms:
         descriptor = add_tun(
             *self.ends.at_end(name, link), self.ends.net.links[link].mtu or mtu, interface, mac=mac_of(link) if is_port else b""
         )
-        in_ipv6(lambda: add_address(interface, self.ends.of_link(name, link), 64))
+        in_ipv6(lambda: add_address(interface, self.ends.link_local(name, link), 64))
         if is_port:  # neighbours ask for an address of IPv6 at the interface that has it
             in_ipv6(lambda: add_address(interface, self.ends.own[name].six, 128))
         return descriptor

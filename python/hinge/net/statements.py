@@ -12,7 +12,6 @@ from hinge.events.forms import line_meant
 from hinge.run.words import LONGEST, Wrong, bare, first_word, length_of, placed, read_lines
 from hingetulip_words.presets import preset
 
-
 UNKNOWN_HOST = "no host of this net"
 
 
@@ -97,8 +96,6 @@ class Statement:
 
 
 TAKES_A_COMMAND = ("host", "main", "router")
-
-
 OFTEN = ("link", "nemesis", "host", "main", "router", "switch")  # a second line is another one, or is refused by its name
 SUBJECTS = {"mtu": -1, "trace": -1, "wait": 4, "disk": 3, "faults": 1, "routes": 1}  # the words that a second line has too
 

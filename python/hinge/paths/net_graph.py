@@ -14,7 +14,7 @@ from hinge.paths.report import ways
 from hinge.paths.timeline import Timeline
 from hinge.pictures.drawing import DASHED, SOLID, Edge, Graph, Node, Panel
 from hingetulip_words.foreign import in_units
-from hingetulip_words.values import plain_number
+from hingetulip_words.values import decimal
 
 BANDWIDTH, DELAY = re.compile(r"\bbw (\d{1,18})bit/s"), re.compile(r"\bdelay (\d+)")
 LOSS = re.compile(r"\bplr (\d{0,18}\.?\d{1,18})(?!\S)")  # of a number: a history may have anything
@@ -46,7 +46,7 @@ def places_of(count: int, links: list[tuple[int, int]]) -> Reals:
 def as_link(words: str) -> str:
     """Returns a configuration's words in a link's format, such as 12Mbit/s 10ms loss 1%."""
     words = BANDWIDTH.sub(lambda result: in_units(Fraction(result[1])), words)
-    words = LOSS.sub(lambda result: f"loss {plain_number(as_typed(Fraction(result[1])) * 100)}%", words)
+    words = LOSS.sub(lambda result: f"loss {decimal(as_typed(Fraction(result[1])) * 100)}%", words)
     return DELAY.sub(r"\1ms", words)
 
 

@@ -128,10 +128,9 @@ class Panels:
                 items.append(Points(flow.name, places, result.sent_at(places), result.took_ms(places), color, number))
         if not items:
             return None
-        notes = (
-            [f"band: {LOW} to {HIGH} of 100 packets sent in {time_of(self.of_bands.length)}; line: the median"] if has_band else []
-        )
-        lines, above = self.bounds()
+        band = f"band: {LOW} to {HIGH} of 100 packets sent in {time_of(self.of_bands.length)}; line: the median"
+        notes = [band] if has_band else []
+        (lines, above) = self.bounds()
         return Panel("One-way delay", "sent at, s", "ms", items + lines, notes + above, from_zero=False)
 
     def bounds(self) -> tuple[list[Item], list[str]]:

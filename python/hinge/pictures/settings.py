@@ -30,12 +30,8 @@ def capacities(changes: Iterable[tuple[int, str]], span: int) -> dict[str, tuple
         if kind == "pipe":
             rate = setting.bw / 10**6 if isinstance(setting, Pipe) and setting.bw else np.nan
             table.setdefault(f"pipe {number}{A_FLOW * ('mask' in text.split())}", []).append((moment, rate))
-    steps = {name: [*points, (max(span, points[-1][0]), points[-1][1])] for name, points in table.items()}
-    return {
-        name: (np.array([at for at, _ in points]) / NS_PER_S, np.array([rate for _, rate in points]))
-        for name, points in steps.items()
-        if not np.isnan([rate for _, rate in points]).all()
-    }
+    columns = {name: np.array([*points, (max(span, points[-1][0]), points[-1][1])]).T for name, points in table.items()}
+    return {name: (moments / NS_PER_S, rates) for name, (moments, rates) in columns.items() if not np.isnan(rates).all()}
 
 
 def limits(changes: Iterable[tuple[int, str]], span: int) -> dict[str, Limits]:

@@ -58,7 +58,7 @@ class OfRun(Meaning):
             del self.chosen[pipe]
         for one in self.of("--timeline"):
             time, *words = one.text.split()
-            self.of_link(one.where, ns_of(time), 0, 0, words, 0)
+            self.link_change(one.where, ns_of(time), 0, 0, words, 0)
         self.spell()
         for pipe, option in enumerate(("--up-trace", "--down-trace"), 1):
             self.trace(pipe, option)
@@ -99,7 +99,7 @@ class OfRun(Meaning):
             of_way.setdefault(chosen["kind"], {})[int(chosen["packet"])] = int(chosen["ms"] or 0)
         elif act:
             lossy = ["lossy"] if act["kind"] == "cut" else []
-            self.of_link(one.where, ns_of(act["at"]), 0, 0, [SIDES[act["way"]], "outage", act["length"], *lossy], 0)
+            self.link_change(one.where, ns_of(act["at"]), 0, 0, [SIDES[act["way"]], "outage", act["length"], *lossy], 0)
         else:
             raise Unread(f"{one.where}: no fault of a run")
 
@@ -121,4 +121,4 @@ class OfRun(Meaning):
 
     def at(self, where: str, word: str, text: str, doubt: int = 0) -> None:
         """Adds a request from the control socket."""
-        self.of_link(where, self.moment(word), 0, 0, text.split(), doubt)
+        self.link_change(where, self.moment(word), 0, 0, text.split(), doubt)

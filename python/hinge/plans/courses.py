@@ -11,7 +11,6 @@ from typing import Optional
 from hinge.plans.meaning import FOR_EVER, LineEvent
 from hinge.plans.spelling import LineOptions, options_of
 
-
 LEAST_LOSS = str(Fraction("0.000000000465661288"))  # that of packets which a cut of a port chooses
 Port = tuple[str, ...]  # the protocol and the port of packets, or nothing for all packets
 ANY: Port = ("",)  # any port that a line cuts

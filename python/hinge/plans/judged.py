@@ -102,7 +102,7 @@ class Judge(OfHosts):
             at, _, event = heappop(self.due)
             options = self.in_force.get(event.target)
             if not self.fits(event.target, options, at, True, moment):
-                told = self.told(options)
+                told = self.options_text(options)
                 self.fault(at, f"{event.where} wasn't done: {self.name(event.target)} is `{told}` at {seconds(at)}")
 
     def configured(self, text: str) -> None:
@@ -296,5 +296,5 @@ class Judge(OfHosts):
         yield f"{'not ' if self.faults else ''}as {self.meaning.path} says: {count} lines, {len(self.acts)} acts, {self.packets} packets"
 
     @staticmethod
-    def told(options: LineOptions) -> str:
+    def options_text(options: LineOptions) -> str:
         return "deleted" if options is None else " ".join(f"{key} {text}" for key, text in options.items()) or "open"

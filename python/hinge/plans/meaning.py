@@ -18,7 +18,7 @@ SECOND = 10**9
 UNITS = {"ns": 1, "us": 10**3, "ms": 10**6, "s": 10**9, "min": 60 * 10**9, "h": 3600 * 10**9, "": 10**9}
 FOR_EVER = 2**62
 RATE, DELAY = re.compile(r"\d+[kmg]?(bits?|bytes?)/s", re.I), re.compile(r"\d+ms")
-ENDINGS_OF_ACTS = {"kill": "restart", "crash": "restart", "stop": "cont"}
+ACT_ENDS = {"kill": "restart", "crash": "restart", "stop": "cont"}
 PROTOCOLS = {"tcp": "6", "udp": "17"}
 OF_HOST = ("jitter", "duplicate", "corrupt")  # the words of a link that aren't dummynet's
 NEMESES = {"kill-one": "kill", "crash-one": "crash", "stop-one": "stop"}  # the others cut
@@ -209,11 +209,11 @@ class Meaning:
         start, name = self.moment(word), words[0]
         if name in ("cut", "heal"):
             self.cut(where, start, words, doubt)
-        elif name in (*ENDINGS_OF_ACTS, *ENDINGS_OF_ACTS.values(), "skew"):
-            length = ns_of(words[2]) if words[2:] and name in ENDINGS_OF_ACTS else 0 if name == "crash" else FOR_EVER - start
+        elif name in (*ACT_ENDS, *ACT_ENDS.values(), "skew"):
+            length = ns_of(words[2]) if words[2:] and name in ACT_ENDS else 0 if name == "crash" else FOR_EVER - start
             self.add(where, start, kind=name, end=start + length, host=words[1], doubt=doubt)
         else:
-            self.of_link(where, start, *self.between(words), doubt)
+            self.link_change(where, start, *self.between(words), doubt)
 
     def cut(self, where: str, start: int, words: list[str], doubt: int) -> None:
         """Adds a cut or a heal: the pipe loses all packets from one end."""
@@ -226,7 +226,7 @@ class Meaning:
                 if not rest or {sender, receiver} - {host} <= set(rest[1:]):
                     self.add(where, start, kind=kind, end=end, target=("pipe", pipe), port=port, doubt=doubt)
 
-    def of_link(self, where: str, start: int, link: int, is_back: int, words: list[str], doubt: int) -> None:
+    def link_change(self, where: str, start: int, link: int, is_back: int, words: list[str], doubt: int) -> None:
         side = words.pop(0) if words[0] in ("up", "down") else ""
         ways = [0, 1] if not side else [(side == "down") ^ is_back]
         pipes = [2 * link + 1 + way for way in ways]

@@ -8,7 +8,7 @@ from collections import defaultdict, deque
 from heapq import heappop, heappush
 from typing import Iterator, NamedTuple, Optional, Tuple
 
-from hinge.plans.meaning import ENDINGS_OF_ACTS, FOR_EVER, SECOND, LineEvent, Meaning
+from hinge.plans.meaning import ACT_ENDS, FOR_EVER, SECOND, LineEvent, Meaning
 
 MS = 10**6
 Key = Tuple[str, str]  # a host and the word of an act
@@ -35,9 +35,7 @@ class OfHosts:
         self.meaning, self.limit, self.now = meaning, limit, 0
         self.faults: list[Broken] = []
         self.remarks: list[str] = []
-        self.stops = defaultdict[Key, list[LineEvent]](
-            list
-        )  # and kills, in order, up to the first packet that shows whether they hold
+        self.stops = defaultdict[Key, list[LineEvent]](list)  # and kills, in order, up to the first packet that shows if they hold
         self.ends_of = defaultdict[Key, list[int]](list)  # the moments of what ends them, by its word
         self.acts: list[tuple[int, str, str]] = []  # as they were told
         self.places = defaultdict[Key, deque[int]](deque)  # of acts in that list
@@ -58,9 +56,9 @@ class OfHosts:
 
     def note_acts(self, events: list[LineEvent]) -> None:
         for one in events:
-            if one.kind in ENDINGS_OF_ACTS:
+            if one.kind in ACT_ENDS:
                 heappush(self.stops[one.host, one.kind], one)
-            elif one.kind in ENDINGS_OF_ACTS.values():
+            elif one.kind in ACT_ENDS.values():
                 insort(self.ends_of[one.host, one.kind], one.moment)
 
     def from_stopped(self, moment: int, packet: list[str]) -> None:
@@ -69,7 +67,7 @@ class OfHosts:
         fault.
         """
         host = self.own.get(packet[0], "") if packet[2] == UDP and not self.ends else ""
-        for kind in ENDINGS_OF_ACTS if self.tells_entries else ("stop",):
+        for kind in ACT_ENDS if self.tells_entries else ("stop",):
             faults = self.stops[host, kind]
             while faults and self.has_begun(faults[0], moment):
                 fault = heappop(faults)
@@ -85,7 +83,7 @@ class OfHosts:
 
     def goes_on(self, fault: LineEvent, moment: int) -> bool:
         """Returns whether a line has ended a fault."""
-        ends = self.ends_of[fault.host, ENDINGS_OF_ACTS[fault.kind]]
+        ends = self.ends_of[fault.host, ACT_ENDS[fault.kind]]
         return bisect_right(ends, fault.moment) < bisect_right(ends, moment)
 
     def expected(self) -> Iterator[tuple[int, str, str, LineEvent]]:
@@ -96,20 +94,20 @@ class OfHosts:
         latest = defaultdict[Key, list[Place]](list)  # the ends of the faults up to each of `same`, behind the last of `ends`
         for one in acts:
             ends[one.host, one.kind].append(one[:2])
-            if word := ENDINGS_OF_ACTS.get(one.kind):
+            if word := ACT_ENDS.get(one.kind):
                 key = one.host, word
                 goes_on = same[key] and (not ends[key] or ends[key][-1] < same[key][-1])
                 latest[key].append(max([(one.end, one.place), *latest[key][-1:]]) if goes_on else (one.end, one.place))
                 same[key].append(one[:2])
         for one in acts:
             yield one.moment, one.kind, one.host, one
-            until, key = (one.end, one.place), (one.host, ENDINGS_OF_ACTS.get(one.kind, ""))
-            if one.kind in ENDINGS_OF_ACTS and one.end < FOR_EVER:
+            until, key = (one.end, one.place), (one.host, ACT_ENDS.get(one.kind, ""))
+            if one.kind in ACT_ENDS and one.end < FOR_EVER:
                 before = bisect_left(ends[key], until)
                 last = ends[key][before - 1] if before else (-1, -1)
                 behind = bisect_left(same[key], until)
                 if last <= one[:2] and (not behind or latest[key][behind - 1] <= until):
-                    yield one.end, ENDINGS_OF_ACTS[one.kind], one.host, one
+                    yield one.end, ACT_ENDS[one.kind], one.host, one
 
     def note_act(self, moment: int, word: str, host: str) -> None:
         """Notes an act as it was told. After the end, stopped processes continue, which no line requests."""

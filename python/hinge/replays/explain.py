@@ -15,7 +15,7 @@ from hinge.loss import KEPT, LOST as LOST_WORD
 from hinge.replays.columns import GREATEST, Lazily
 from hinge.replays.groups import Groups
 from hinge.replays.link_order import LinkOrder, WaitedFor
-from hinge.replays.links import BITS_NS, UNKNOWN, Parts, Spell, bandwidth_of, delay_of, loss_of
+from hinge.replays.links import BITS_NS, UNKNOWN, Parts, bandwidth_of, delay_of, loss_of
 from hinge.replays.replay import FULL, HELD, LOST, NONE, OUT
 from hinge.replays.units import ms, packets, rows, seconds
 
@@ -53,18 +53,13 @@ class Explainer:
 
     # ---- what every packet has ----
 
-    def target(self, place: int) -> tuple[str, int]:
-        return self.packets.targets[int(self.packets.target[place])]
-
     def own(self, place: int) -> Pipe | Queue:
         """Returns the pipe or queue of a row with a target."""
-        own = self.spell(self.parts.own[place])
-        if own is None or own.setting is None:
+        number = int(self.parts.own[place])
+        setting = None if number == UNKNOWN else self.parts.configuration.spells[number].setting
+        if setting is None:
             raise self.parts.another(f"row {place + 1} would have had no target")
-        return own.setting
-
-    def spell(self, number: int) -> Optional[Spell]:
-        return None if number == UNKNOWN else self.parts.configuration.spells[number]
+        return setting
 
     def turns(self, number: int, value: Callable[[Setting], int]) -> list[int]:
         """Returns the places where the value changes among this target's spells. Other spells in outages don't count."""
@@ -114,7 +109,7 @@ class Explainer:
         return f"an outage, in which pipe {pipe} held packets from {seconds(start)} to {seconds(start + int(self.parts.transmission[place]))}"
 
     def target_name(self, place: int) -> str:
-        kind, number = self.target(place)
+        kind, number = self.packets.targets[int(self.packets.target[place])]
         return f"{kind} {number}"
 
     def sent(self, place: int) -> str:
@@ -147,7 +142,8 @@ class Explainer:
         wait, took = start - at, due - at
         parts_of_it = f"{ms(took)} = {ms(wait)} waiting + {ms(sending)} transmission + {ms(delay)} delay"
         in_force = self.while_so(int(parts.carrier[place]), delay_of)
-        before = f"{self.waiting(place, wait)} {self.sending(place)} The link's delay was {ms(delay)}{', ' if in_force else ''}{in_force}."
+        own_delay = f"The link's delay was {ms(delay)}{', ' if in_force else ''}{in_force}."
+        before = f"{self.waiting(place, wait)} {self.sending(place)} {own_delay}"
         if behind:
             before = f"{before} {self.stayed_behind(place, behind)}"
             parts_of_it = f"{parts_of_it} + {ms(behind)} behind another"
@@ -261,10 +257,8 @@ class Explainer:
             raise self.parts.another(f"row {place + 1} would have found room")
         why = f"The queue of its flow {self.replay.flow[place]} was full, so it was dropped"
         unsure = "at most " if self.parts.is_shared[place] and (self.replay.event[backlog] == HELD).any() else ""
-        backlog_text = (
-            f"{unsure}{packets(len(backlog))} waited there ({rows((backlog + 1).tolist())}), {total:,} bytes in all, {options}"
-        )
-        return f"{why}: {backlog_text}. {self.room_again(place, int(backlog[leaver]))}"
+        waited = f"{unsure}{packets(len(backlog))} waited there ({rows((backlog + 1).tolist())}), {total:,} bytes in all, {options}"
+        return f"{why}: {waited}. {self.room_again(place, int(backlog[leaver]))}"
 
     def room_again(self, place: int, leaver: int) -> str:
         """Describes the moment at which the queue had room: the start of this packet's transmission."""

@@ -13,8 +13,8 @@ from hinge.replays.replay import PROTOCOLS
 from hinge.run.plan_of_options import LINKS
 from hinge.searches.case import Case
 from hinge.searches.runs import RunFiles, Runner, SummarizedRun
-from hinge.simulated.calls_kept import MOST_CALLS, CallRow, around, call_rows, pauses_in
-from hinge.simulated.machine import ALL_CORES, BOOTED, NO_CORES, DEADLOCK_CORES, Machine
+from hinge.simulated.calls_kept import CALLS, CallRow, around, call_rows, pauses_in
+from hinge.simulated.machine import ALL_CORES, BOOTED, NO_CORES, OF_DEADLOCK, Machine
 from hinge.simulated.pauses import given
 from hinge.simulated.places import has_debugger, innermost
 from hinge.simulated.start import MACHINE_HISTORY
@@ -93,10 +93,8 @@ class Repetition(NamedTuple):
 def repetition_of(runner: Runner, case: Case) -> Repetition:
     """Looks at the lost packets in a run with a transcript, which would change the summary."""
     rows, losses = list[CallRow](), list[Lost]()
-    cores = DEADLOCK_CORES if has_debugger() else NO_CORES
-    ran = runner.case(
-        case, RunFiles((f"keep {MOST_CALLS}",), cores), lambda machine: rows.extend(call_rows(machine.folder / "calls"))
-    )
+    cores = OF_DEADLOCK if has_debugger() else NO_CORES
+    ran = runner.case(case, RunFiles((f"keep {CALLS}",), cores), lambda machine: rows.extend(call_rows(machine.folder / "calls")))
     if case.of_kind("losses"):
         what = runner.asked.what
         runner.case(case, RunFiles(transcript=MACHINE_HISTORY), lambda machine: losses.extend(losses_in(what, machine) or ()))

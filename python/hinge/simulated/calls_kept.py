@@ -7,7 +7,7 @@ from typing import Iterator, NamedTuple
 
 from hinge.simulated.calls_of_linux import call_name
 
-MOST_CALLS = 50_000  # calls of a run that is looked at
+CALLS = 50_000  # calls of a run that is looked at
 PAUSES, GOES_ON = -2, -3  # in place of a call's number, as the kernel has them
 RESTARTED = range(-516, -511)  # in place of the result of a call that a signal ended
 AROUND = 3  # calls before a pause, at its beginning, at its end and behind it that are told

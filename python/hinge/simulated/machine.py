@@ -30,7 +30,7 @@ TIMED_OUT = 124  # as that of timeout(1)
 SIGNALLED = 128
 NO_LIFE, OVER = signal.SIGUSR1, signal.SIGALRM  # why a machine ends its job: nothing of it will ever wake, or its time is over
 LIBRARIES, LIBRARIES_SIZE = "/etc/ld.so.cache", 1 << 20
-NO_CORES, DEADLOCK_CORES, ALL_CORES = "none", "deadlock", "all"  # cores that the launcher looks at
+NO_CORES, OF_DEADLOCK, ALL_CORES = "none", "deadlock", "all"  # cores that the launcher looks at
 
 
 class Settings(NamedTuple):

@@ -63,8 +63,8 @@ class NetRun(NamedTuple):
             texts += [base, str(act.moment.ns), act.word, ACTS[act.word].ending, host, str(act.fault), act.more]
         return texts
 
-    def told(self, folder: Path) -> Optional[MachineMessages]:
-        """Nothing where the links ended at once."""
+    def messages(self, folder: Path) -> Optional[MachineMessages]:
+        """Returns the first process's messages, or None if the links ended at once."""
         rows = [line.split() for line in first_process_lines(folder)]
         if not rows:
             return None
@@ -86,7 +86,7 @@ class NetRun(NamedTuple):
 
     def ended(self, folder: Path) -> Optional[MachineVerdict]:
         """As the main command did, or where there is none as the first that didn't end well."""
-        result = self.told(folder)
+        result = self.messages(folder)
         if result is None:
             return None
         if result.missing:
@@ -96,7 +96,7 @@ class NetRun(NamedTuple):
         return next((one for one in result.verdicts.values() if one.status), MachineVerdict(ITSELF, 0))
 
     def report(self, folder: Path, summary: Path, verdict: Optional[MachineVerdict], tell: Tell) -> int:
-        result, ends = self.told(folder), NetEnds(self.order.net)
+        result, ends = self.messages(folder), NetEnds(self.order.net)
         if result is None:
             raise ValueError(folder)
         places = {name: counts_of(folder, place) for place, name in enumerate(ends.own, 1)}

@@ -26,7 +26,7 @@ from hinge.simulated.job import Job, environment, limit_in_ns, real_limit_of, re
 from hinge.simulated.kernel import Kernel, usable_kernel
 from hinge.simulated.likeness import earlier, remarks
 from hinge.simulated.link_rooms import LinkRun, link_run
-from hinge.simulated.machine import BOOTED, NO_LIFE, NO_CORES, DEADLOCK_CORES, TIMED_OUT, Machine, MachineEnded, Settings
+from hinge.simulated.machine import BOOTED, NO_LIFE, NO_CORES, OF_DEADLOCK, TIMED_OUT, Machine, MachineEnded, Settings
 from hinge.simulated.pauses import pauses_of
 from hinge.simulated.opened_files import files_record
 from hinge.simulated.outcome import RunOutcome, Record
@@ -61,7 +61,7 @@ def settings_of(options: SimulatedOptions, seed: int) -> Settings:
     memory, cpu = options.memory or size(MEMORY), options.cpu or "stable"
     scratch = options.scratch or options.twice
     pauses = pauses_of(options.pauses, seed)
-    cores = DEADLOCK_CORES if has_debugger() else NO_CORES
+    cores = OF_DEADLOCK if has_debugger() else NO_CORES
     return Settings(seed, at, memory, cpu, scratch, pauses, limit_in_ns(options), root_of(options), cores=cores)
 
 

@@ -16,9 +16,9 @@ from hinge.configurations.configured import spelled_lines
 from hinge.pictures.panels import CAUSE_COLORS, COLORS, PIPES, RESTS, drawing, percentiles
 from hinge.pictures.panels import Panels as PanelsOf
 from hinge.pictures.series import NS_PER_S, Steps, series, span_of, waiting
-from hinge.replays.bounds import bounds as bounds_of
 from hinge.replays.groups import group
 from hinge.replays.replay import read_packets
+from hinge.replays.source import of_reports
 from hinge.version import version
 from pictured import figure, forty, full_link, matplotlib_there, series_of
 
@@ -65,26 +65,21 @@ class Panels(unittest.TestCase):
         assert carried.get_ylim()[1] < 20
 
     def test_of_many_pipes_the_smaller_are_summed_up(self) -> None:
-        """Pipe N gets N packets of 1,000 bytes at once, each of a flow of its own; pipe 11 gets none."""
+        """Pipe N carries N packets of 1,000 bytes at once, each of a flow of its own; pipe 11 carries none."""
         numbers = [number for number in range(1, 11) for _ in range(number)]
         lines = [f"0,pipe,{number},10.0.0.{place},10.0.1.0,17,1,2,1000,9" for place, number in enumerate(numbers)]
         config = write("pipes.config", "".join(f"pipe {number} config bw 8Mbit/s\n" for number in range(1, 12)))
         packets = write("pipes.csv", "\n".join([HEADER, *lines]) + "\n")
-        parts = parts_of(config, packets, replayed("pipes", config, packets))
-        changes = [(0, text) for text in parts.configuration.lines]
-        bounds = bounds_of(parts.replay, parts.configuration)
-        groups = group(parts.replay, "tuple").largest(parts.replay.packets.length, 1)
-        found = series(parts.replay, groups, NS_PER_S, NS_PER_S, changes, bounds=bounds)
+        [source] = of_reports(str(packets), [str(replayed("pipes", config, packets))], str(config))
+        groups = group(source.replay, "tuple").largest(source.replay.packets.length, 1)
+        found = series(source.replay, groups, NS_PER_S, NS_PER_S, source.changes, bounds=source.bounds)
         large = [f"pipe {number}" for number in range(3, 11)]
         assert {*found.carried} == {"2 other pipes", *large}
         assert found.carried["2 other pipes"].tolist() == [0.024]
         assert [*found.capacities] == [one.name for one in found.bounds] == large
-        assert {name: lengths.max() for name, (_, lengths) in found.waiting.items()}["2 others"] == 1
+        assert found.waiting["2 others"][1].max() == 1
         rest = {flow.name: flow.packets for flow in found.flows if flow.is_rest}
-        assert rest == {
-            "2 others of 2 other pipes": 2,
-            **{f"{number} others of pipe {number}": number for number in range(3, 11)},
-        }
+        assert rest == {"2 others of 2 other pipes": 2, **{f"{number} others of pipe {number}": number for number in range(3, 11)}}
 
     def test_the_packets_that_wait(self) -> None:
         """At each moment, those that came and didn't begin to be sent."""

@@ -180,6 +180,8 @@ class OfRuns(InAFolder):
         self.socket.unlink()
         with socket.socket(socket.AF_UNIX) as left:
             left.bind(str(self.socket))
+        done = self.change("up", "5ms")
+        assert done.stderr == f"hinge change: {self.socket}: its run was killed and left this socket, which may be removed\n"
         assert run("--quiet", "--control", self.socket, "--", "true").returncode == 0
         with self.running("run"):
             assert run("--quiet", "--control", self.socket, "--", "true").returncode == 6

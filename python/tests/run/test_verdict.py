@@ -128,7 +128,7 @@ class OfIdleEvents(InAFolder):
                 told = re.findall("goes on then|leave one of them out", str(wrong))
             self.assertTrue(told, words)
             for end in begun:
-                if WORDS[end].lacking and endings.get(word) != end:
+                if WORDS[end].none and endings.get(word) != end:
                     self.assertRaisesRegex(Wrong, "goes on then", self.idle, f"1s {words}", f"2s {end} a")
 
     def test_what_ends_earlier_covers_nothing_behind(self) -> None:
