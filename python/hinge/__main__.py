@@ -65,7 +65,7 @@ def refuse(words: list[str], program: str = "hinge") -> None:
 
 
 def advice_on(words: list[str], program: str) -> str:
-    """Returns what to write in place of words without a command."""
+    """Returns advice on words that don't begin with a command."""
     import difflib
     import shlex
 

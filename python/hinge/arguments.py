@@ -1,5 +1,5 @@
-"""The common parts of command lines: inputs and bounded numbers. Some numbers and names of other modules are here, so that a help
-loads none of these modules."""
+"""The common parts of command lines: inputs and bounded numbers. Some numbers and names from other modules are here, so that a
+help doesn't load these modules."""
 
 from __future__ import annotations
 
@@ -43,7 +43,7 @@ def bounded(low: int, high: int) -> Callable[[str], int]:
 
 
 def seeds(text: str) -> list[int]:
-    """Returns the seeds in a text such as `7`, `1-5` or `1-5,7`. ArgumentTypeError: the form is another, or a seed too large."""
+    """Returns the seeds in a text such as `7`, `1-5` or `1-5,7`. ArgumentTypeError: the form is wrong, or a seed too large."""
     result = list[int]()
     for part in text.split(","):
         low, _, high = part.partition("-")
@@ -57,7 +57,7 @@ def seeds(text: str) -> list[int]:
 
 
 def file_of(*formats: Format) -> Callable[[str], str]:
-    """Returns a function with which argparse reads the name of a file in one of these formats."""
+    """Returns a function with which argparse reads a file name in one of these formats."""
 
     def name(text: str) -> str:
         if not text.lower().endswith(endings):
@@ -112,7 +112,7 @@ class LookOptions(SimpleNamespace):
         return [*self.o, self.json] if self.json else self.o
 
     def files(self, *formats: Format) -> list[str]:
-        """Returns the names of -o that have one of these formats."""
+        """Returns the file names from -o in these formats."""
         from hinge.outputs import format_of
 
         return [name for name in self.o if format_of(name) in formats]

@@ -85,7 +85,7 @@ def open_closed_streams() -> None:
 
 
 def say(line: str) -> None:
-    """Prints a line on standard error, behind the command's name. The line may quote others' text, so this call escapes control
+    """Prints a line on standard error, after the command's name. The line may quote others' text, so this call escapes control
     characters and cuts very long lines."""
     tell(f"{NAME[0]}: {printable(line[:LONGEST])}" + (" .." if len(line) > LONGEST else ""))
 
@@ -130,7 +130,7 @@ def outcome(main: Callable[[], object]) -> tuple[int, str]:
 
 
 def lacks_memory(error: Exception) -> bool:
-    """Returns whether an exception comes from a module or a thread for which there was no memory."""
+    """Returns whether a module or a thread raised an exception because there was no memory."""
     return isinstance(error, SystemError) or any(message in str(error) for message in NO_ROOM)
 
 
@@ -213,7 +213,7 @@ class Progress:
         self.is_terminal = sys.stderr.isatty()
 
     def at(self, count: int) -> None:
-        """Prints the count over the last one, at most twice a second."""
+        """Prints the count over the last count, at most twice a second."""
         if not self.is_terminal:
             return
         now = time.monotonic()

@@ -27,7 +27,7 @@ class Joined(argparse.Action):
 
 
 class Rule(NamedTuple):
-    """Describes when an option is refused, because it has no effect."""
+    """Describes when an option is refused because it does nothing."""
 
     option: str
     is_idle: Callable[[], bool]  # called after parsing
@@ -35,8 +35,8 @@ class Rule(NamedTuple):
 
 
 class Parser(argparse.ArgumentParser):
-    """Parses a command line strictly. Each option is written in full, has an effect and no empty value, and only options that may
-    be repeated occur twice. A refusal of an unknown option names the option that the user may have meant."""
+    """Parses a command line strictly. Each option must be written in full and do something, its value mustn't be empty, and only
+    options for repetition may occur twice. The refusal names the option that the user may mean."""
 
     def __init__(self, **settings: Any) -> None:
         super().__init__(**settings, allow_abbrev=False)
@@ -45,12 +45,12 @@ class Parser(argparse.ArgumentParser):
         self.rules = list[Rule]()
 
     def needs(self, options: str, *others: str) -> None:
-        """Refuses each of these options if none of the others is given, since it does nothing then."""
+        """Refuses these options if a command line lacks all `others`, because then they do nothing."""
         for option in options.split():
             self.rule(option, lambda: not self.given.keys() & {*others}, f"without {' or '.join(others)}")
 
     def yields(self, options: str, *others: str) -> None:
-        """Refuses each of these options if all of the others are given, since it does nothing then."""
+        """Refuses these options if a command line contains all `others`, because then they do nothing."""
         for option in options.split():
             self.rule(option, lambda: self.given.keys() >= {*others}, f"beside {' and '.join(others)}")
 
@@ -72,8 +72,8 @@ class Parser(argparse.ArgumentParser):
         return result
 
     def parse_intermixed_args(self, args: Any = None, namespace: Any = None) -> Any:
-        """Returns the options and files of a command line, which may come in any order. Behind `--` only files follow, which may
-        begin with a hyphen."""
+        """Returns a command line's options and files, in any order. Behind `--` only files follow, which may begin with a
+        hyphen."""
         words = sys.argv[1:] if args is None else args
         end = words.index("--") if "--" in words else len(words)
         files = [f"./{word}" if word.startswith("-") else word for word in words[end + 1 :]]
@@ -84,8 +84,8 @@ class Parser(argparse.ArgumentParser):
         return [name for name, action in self._option_string_actions.items() if action.help is not argparse.SUPPRESS]
 
     def _get_values(self, action: argparse.Action, texts: list[str]) -> Any:
-        """Returns an option's values, each time that the option occurs. ArgumentError: a value is empty, or an option that can't be
-        repeated has a second value."""
+        """Returns an option's values, each time that the option occurs. ArgumentError: a value is empty, or repeats an option that
+        can't be repeated."""
         if not action.option_strings:
             return super()._get_values(action, texts)
         option = action.option_strings[0]
@@ -104,8 +104,7 @@ class Parser(argparse.ArgumentParser):
         return super()._get_values(action, texts)
 
     def value_fault(self, fault: re.Match[str]) -> str:
-        """Returns a message, in place of argparse's, for an option that lacks its value or has a value that doesn't belong
-        there."""
+        """Returns a better message than argparse's if an option lacks its value, or if a flag is followed by a value."""
         option = fault[1].rpartition("/")[2]
         if fault[2]:
             return f"argument {option}: it has no value; leave out {fault[2]}"
@@ -116,7 +115,7 @@ class Parser(argparse.ArgumentParser):
         return message
 
     def error(self, message: str) -> NoReturn:
-        """Prints why the command line is refused, with what to write, and ends the process."""
+        """Prints the reason for a refusal, with advice, and ends the process."""
         from hinge.command import advised
 
         unknown = self.unknown_options()
@@ -137,7 +136,7 @@ class Parser(argparse.ArgumentParser):
         super().error(refusal)
 
     def unknown_options(self) -> list[str]:
-        """Returns the options before `--` that the command doesn't have."""
+        """Returns the options before `--` that the command doesn't know."""
         options = [word for word in takewhile(lambda word: word != "--", sys.argv[1:]) if re.match("-.", word)]
         return [word for word in options if word.partition("=")[0] not in self._option_string_actions]
 
@@ -147,7 +146,7 @@ class Parser(argparse.ArgumentParser):
         return f"{names} is missing, as in `{examples[0]}`"
 
     def advice_on_unknown(self, words: str) -> str:
-        """Returns the end of the message for unknown words, of which the first counts: what to write, or where the options are."""
+        """Returns advice on unknown words, which ends the message. Only the first word counts."""
         option = words.partition(" ")[0].partition("=")[0]
         if not option.startswith("-") and "[-- COMMAND" in (self.usage or ""):
             import shutil
@@ -160,8 +159,8 @@ class Parser(argparse.ArgumentParser):
         return f"; `hinge help {self.prog.removeprefix('hinge ')}` lists the options"
 
     def near_options(self, option: str) -> list[str]:
-        """Returns the options that may be meant by an unknown one: options with the same beginning, else with the same end, else the
-        one that resembles it."""
+        """Returns the options that the user may mean by an unknown option: options with the same beginning, or with the same end,
+        or the most similar option."""
         import difflib  # a help must not load this slow module
 
         names = self.options()

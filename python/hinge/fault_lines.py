@@ -55,7 +55,7 @@ class Fault:
 
 @dataclass(frozen=True, order=True)
 class Act:
-    """Describes an act on a host or link: a cut, a hold or a crash of some length, or an offset of a host's clock."""
+    """Describes an act on a host or link: a cut, a hold or a crash for some seconds, or a new offset for a host's clock."""
 
     moment: float  # s since the beginning
     kind: str  # one of ACTS
@@ -134,7 +134,7 @@ class Faults(Tuple[Either, ...]):
 
 
 class Drawn(Faults):
-    """Holds faults that hypothesis draws, or that a search tries while it shrinks a failure. Their packets may never come."""
+    """Holds faults that hypothesis draws, or that a search tries while it shrinks a failure. Their packets may never arrive."""
 
 
 def faults_in(path: Union[str, Path], lines: Iterable[str]) -> Faults:

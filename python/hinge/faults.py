@@ -41,7 +41,7 @@ class FaultyNetwork(Network):
             self.loop.call_at(act.moment, self._act, act)
 
     def _act(self, act: Act) -> None:
-        """Does an act now, and keeps what it disturbs, or why it is refused."""
+        """Does an act now, and keeps the disturbance, or the reason for a refusal."""
         if not self.closing:
             try:
                 self.acted[act] = self.act(act)
@@ -77,14 +77,13 @@ class FaultyNetwork(Network):
         return delay_of, twice.__contains__ if twice else None
 
     def faults_met(self) -> list[Either]:
-        """Returns what happened to packets, as faults: the losses and copies in order of time, then the delays in order of
-        links."""
+        """Returns the faults that happened to packets: losses and copies in order of time, then delays by link and packet."""
         faults = [Fault(link.name, number, kind) for link, kind, number in self.happened if kind != IS_LATE]
         late = [Fault(link.name, number, kind, link.late.get(number, 0)) for link, kind, number in self.happened if kind == IS_LATE]
         return [*faults, *sorted(late)]
 
     def unmet(self) -> Faults:
-        """Returns the faults whose packets never came to their links, and the acts that weren't done or had no effect."""
+        """Returns the faults whose packets never arrived, and the acts that weren't done or did nothing."""
         faults = Faults() if self.chosen is None else self.chosen
         counts = {link.name: link.came for link in self.links.values()}
         packets = [fault for fault in faults.packets if counts.get(fault.link, 0) < fault.packet]
@@ -93,7 +92,7 @@ class FaultyNetwork(Network):
 
     def unmet_faults(self) -> list[str]:
         """Returns a message for each fault whose link is missing and each refused act. Unless the faults are drawn, adds a message
-        for each fault whose packet never came, and each act whose moment never came."""
+        for each fault whose packet never arrived, and each act after the run's end."""
         lines = super().unmet_faults()
         names = [link.name for link in self.links.values()]
         is_drawn = isinstance(self.chosen, Drawn)

@@ -24,15 +24,15 @@ PUMBA_ACTS = {"kill": "kill", "stop": "kill", "pause": "stop"}  # pumba's acts o
 
 
 def is_one_way(options: Sequence[str]) -> bool:
-    """Returns whether options of `hinge run` begin with a link in one direction, and have none in the other."""
+    """Returns whether options for `hinge run` describe a link in one direction only."""
     return options[0] in BOTH and not {*BOTH} <= {*options}
 
 
 def of_link(
     tool: str, words: Sequence[str], more: str = "", before: str = "hinge run", behind: str = " -- COMMAND"
 ) -> Optional[Answer]:
-    """Returns the line that replaces another tool's words, with a note on the words that no link can obey; None if the words
-    request nothing of a link. The line consists of `before`, the link's options, `more` and `behind`."""
+    """Returns the line that replaces another tool's words, with a note on words that no link supports; None if the words don't
+    concern a link. The line consists of `before`, the link's options, `more` and `behind`."""
     meant = Meant(tool, words)
     options = meant.options()
     if not options:
@@ -61,8 +61,8 @@ def of_tc(words: Sequence[str]) -> Optional[Answer]:
 
 
 def of_ipfw(words: Sequence[str]) -> Optional[Answer]:
-    """Answers a line of ipfw or dnctl that configures a pipe or queue, loses a share of packets, or lists or deletes entries.
-    Words with a hyphen are ignored."""
+    """Answers a line of ipfw or dnctl that configures a pipe or queue, loses packets, or lists or deletes entries. Words with a
+    hyphen don't count."""
     own = [word for word in words if word not in ("ipfw", "dnctl") and not word.startswith("-")]
     if len(own) > 2 and own[0] in ("pipe", "queue") and "config" in own[1:3]:
         return of_ipfw_setting(own)
@@ -96,7 +96,8 @@ def of_ipfw_setting(words: Sequence[str]) -> Answer:
 
 
 def of_ipfw_verb(words: Sequence[str]) -> Optional[Answer]:
-    """Answers a line of ipfw by the last of its first three words that is known; None for a line that is none of ipfw's."""
+    """Answers any other line of ipfw by the last known word among the first three; None if the line doesn't begin like ipfw's
+    lines."""
     if not words or words[0] not in ("pipe", "queue", "sched", "add", "show", "list", "delete", "flush"):
         return None
     for word in reversed(words[:3]):
@@ -120,7 +121,7 @@ def of_pumba(words: Sequence[str]) -> Optional[Answer]:
 
 
 def of_pumba_fault(words: Sequence[str], fault: str) -> Optional[Answer]:
-    """Answers a line of pumba with a fault of netem, by a link for the first container that the line names."""
+    """Answers a pumba line with a netem fault by a link for the line's first container."""
     options = [f"--{fault}-percent" if word == "--percent" else word for word in words[1:] if word not in ("netem", fault)]
     container, *others = Meant("pumba", options).rest or ["NAME"]
     if fault == "delay" and "--time" not in words:
@@ -175,7 +176,7 @@ def of_run(words: Sequence[str]) -> Optional[Answer]:
 
 
 def with_link(options: Sequence[str]) -> list[str]:
-    """Returns options of `hinge run`, with a link in place of options such as --delay and their values."""
+    """Returns options for `hinge run`, in which a link replaces options such as --delay."""
     places = [place for place, word in enumerate(options[:-1]) if word in OF_LINK]
     meant = Meant("ours", [word for place in places for word in options[place : place + 2]])
     others = [word for place, word in enumerate(options) if place not in places and place - 1 not in places]
@@ -227,27 +228,27 @@ def refusal(line: str) -> str:
 
 
 def answer_of(words: Sequence[str]) -> Optional[Answer]:
-    """Returns what to write in place of these words after `hinge`, or why `hinge run` refuses the line that would replace them;
-    None if the words are unknown."""
+    """Returns the replacement for these words after `hinge`, or why `hinge run` refuses the replacement; None if the words are
+    unknown."""
     answer = replacement(words)
     wrong = refusal(answer.write) if answer is not None else ""
     return Answer("", answer.page, (wrong,)) if answer is not None and wrong else answer
 
 
 def replacement(words: Sequence[str]) -> Optional[Answer]:
-    """Returns what to write in place of these words after `hinge`; None if the words are unknown."""
-    typed, *others = words[1:] if words[0] == "sudo" and len(words) > 1 else words
-    first = (typed.rpartition("/")[2] or typed).lower()
-    answer = answer_to_line(typed, [first, *others])
+    """Returns the replacement for these words after `hinge`; None if the words are unknown."""
+    word, *others = words[1:] if words[0] == "sudo" and len(words) > 1 else words
+    first = (word.rpartition("/")[2] or word).lower()
+    answer = answer_to_line(word, [first, *others])
     if answer is not None:
         return answer
     answer = WORDS.get(first)
     return answer._replace(notes=(EXAMPLE,)) if answer is not None and others and first in EXAMPLES else answer
 
 
-def answer_to_line(typed: str, words: Sequence[str]) -> Optional[Answer]:
-    """Returns what to write in place of another tool's line, of options, or of link words; None if the line is none of these. The
-    first word is the program's name in lower case, in place of the word `typed`."""
+def answer_to_line(word: str, words: Sequence[str]) -> Optional[Answer]:
+    """Returns the replacement for another tool's line, for options or for link words; None if the line is unknown. `word` is the
+    first word in the user's spelling, which may be a path."""
     first = words[0]
     if first.startswith("--"):
         answer = of_link("comcast", words)
@@ -255,6 +256,6 @@ def answer_to_line(typed: str, words: Sequence[str]) -> Optional[Answer]:
             return answer
     if first.startswith("-") and "--" in words:
         return Answer(shlex.join(["hinge", "run", *words]), "LIVE")
-    if first not in WORDS and corrected(typed):
-        return of_run(["", typed, *words[1:]])
+    if first not in WORDS and corrected(word):
+        return of_run(["", word, *words[1:]])
     return TOOLS[first](words) if first in TOOLS else None

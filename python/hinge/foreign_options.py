@@ -1,4 +1,5 @@
-"""Other tools' options that `hinge run` refuses by name. `hinge.foreign` has the other answers, and loads too slowly for a help."""
+"""Other tools' options that `hinge run` refuses by name. `hinge.foreign` contains the other answers, and loads too slowly for a
+help."""
 
 from __future__ import annotations
 
@@ -44,8 +45,8 @@ KINDS = {"time": (r"\d[\d.]*(ns|us|ms|s|min|h|d)?", "1s"), "number": (r"\d+", "1
 
 
 def one_way(option: str, value: str) -> tuple[list[str], str]:
-    """Returns what to write in place of an option, as alternatives, and the option's value. If the value begins with a direction,
-    as in up:20ms, both are for this direction alone."""
+    """Returns the alternatives that replace an option, and the option's value. If the value begins with a direction, as in
+    up:20ms, both are for this direction alone."""
     form = OPTIONS[option][0]
     way, colon, rest = value.partition(":")
     if colon and way in ("up", "down"):

@@ -1,4 +1,4 @@
-"""The words that users try first as commands of hinge, and what to write in their place."""
+"""The words that users try first after `hinge`, and their replacements."""
 
 from __future__ import annotations
 
@@ -53,8 +53,8 @@ hinge search FILE.net | SIMULATED | fuzz explore seeds shrink
 
 
 class Answer(NamedTuple):
-    """Describes what to write in place of a user's words: the line, the page that describes the line, and notes, such as the words
-    that no link can obey. The line and the page may be empty."""
+    """Describes the replacement for a user's words: the line, the page that describes the line, and notes, such as words that no
+    link supports. The line and the page may be empty."""
 
     write: str
     page: str = ""
@@ -83,5 +83,5 @@ EXAMPLES -= {*PRESETS, "presets"}
 
 
 def lacking(what: Sequence[str], page: str = "LINKS") -> Answer:
-    """Returns the answer that no link does what these words request."""
+    """Returns the answer that no link supports these words."""
     return Answer("", page, (f"no link does: {', '.join(what)}",))

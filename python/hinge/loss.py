@@ -108,7 +108,7 @@ class BurstsByTime:
         self.random = random_words(self, seed, direction)
 
     def next(self) -> int:
-        """Returns LOST during a burst, and KEPT otherwise. TypeError: the model has no clock."""
+        """Returns LOST during a burst, and KEPT otherwise. TypeError: the model lacks a clock."""
         if self.clock is None:
             raise TypeError("bursts by time are of a link that has a clock, as those of hingetulip.aio")
         now = self.clock()
@@ -120,7 +120,7 @@ class BurstsByTime:
 
 
 def random_words(model: Union[GilbertElliott, BurstsByTime], seed: int, direction: int) -> Bernoulli:
-    """Returns the random words of a model, which may set its own seed or direction in place of its link's."""
+    """Returns a model's random words, with the link's seed and direction unless the model sets them."""
     return Bernoulli(
         seed if model.seed is None else model.seed,
         direction if model.direction is None else model.direction,
@@ -195,8 +195,8 @@ def read_model(text: str) -> Maker:
 
 
 def gilbert(text: str) -> str:
-    """Returns a Gilbert-Elliott model's numbers for the plan, which tells hinge-link what to emulate. The text has the form
-    `P,R[,B[,G]]`: the chances to turn bad and to turn good, and the loss rates in the bad and the good state."""
+    """Returns a Gilbert-Elliott model's numbers for the plan, the text with instructions to hinge-link. In the form `P,R[,B[,G]]`
+    P and R are the chances to turn bad and to turn good, and B and G the loss rates in the two states."""
     to_bad, to_good, in_bad, in_good = (parts(rate) for rate in read_rates(text))
     return f"{to_bad} {to_good} {in_good} {in_bad}"
 
@@ -221,8 +221,8 @@ def rate_of(text: str) -> str:
 
 
 def loss_lines(text: str, link: int = 0) -> dict[int, str]:
-    """Returns the plan's lines for a link's loss model, by the number of the way (one direction of a link). The text has the form
-    `[up:|down:]gilbert:P,R[,B[,G]]` or `[up:|down:]list:N,N-M`. Wrong: the text has another form."""
+    """Returns the plan's lines for a link's loss model, by the way's number (a way is one direction of a link). Wrong: the text
+    isn't like `[up:|down:]gilbert:P,R[,B[,G]]` or `[up:|down:]list:N,N-M`."""
     ways = [0, 1]
     model = text
     first, _, rest = text.partition(":")

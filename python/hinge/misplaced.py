@@ -129,8 +129,8 @@ MEANT = lines_of_table()
 
 
 def kind_of(path: str) -> str:
-    """Returns the kind of a file by its beginning, or of a folder or socket; an empty text if unknown. OSError, Fault: the file
-    can't be read."""
+    """Returns the kind of a file, folder or socket; an empty text if unknown. A file's beginning shows its kind. OSError, Fault:
+    the file can't be read."""
     mode = os.stat(path).st_mode
     if stat.S_ISDIR(mode):
         return "session" if os.path.exists(os.path.join(path, "net.history")) else "folder"
@@ -141,7 +141,7 @@ def kind_of(path: str) -> str:
 
 
 def kind_of_text(data: bytes) -> str:
-    """Returns the kind of a file that begins with these bytes, regardless of blank lines and comments; an empty text if unknown."""
+    """Returns a file's kind from the first bytes, without blank lines and comments; an empty text if unknown."""
     text = data[:FRONT].removeprefix(b"\xef\xbb\xbf")
     if not text.startswith((b"#!", b"\x0a\x0d")):
         text = re.sub(rb"\A(?:[ \t\r]*(?:#[^\n]*)?\n)+", b"", text).lstrip(b" \t")
@@ -149,19 +149,18 @@ def kind_of_text(data: bytes) -> str:
 
 
 def line_for(command: str, kind: str, path: str) -> str:
-    """Returns what a file of this kind is called, and the line to type with the file, if there is one."""
-    called, form = KINDS[kind]
+    """Returns a noun for this kind, and the line to type with the file, unless the kind lacks such a line."""
+    noun, form = KINDS[kind]
     form = OF_COMMAND.get(f"{command} {kind}", form)
     if not form:
-        return called
+        return noun
     name = f"./{path}" if kind == "program" and "/" not in path else path
     stem = os.path.splitext(os.path.basename(path))[0]
-    return f"{called}; write {form.format(shlex.quote(name), shlex.quote(stem))}"
+    return f"{noun}; write {form.format(shlex.quote(name), shlex.quote(stem))}"
 
 
 def filled(line: str, words: Sequence[str]) -> str:
-    """Returns a line to type, with the files among these words in place of their kinds, such as HISTORY, and numbers in place of
-    ROW."""
+    """Returns a line to type, in which these words' files replace their kinds, such as HISTORY, and numbers replace ROW."""
     for word in words:
         with suppress(ArgumentTypeError, OSError, Fault):
             if os.path.exists(word):
@@ -194,8 +193,8 @@ def files_in(command: str, words: Sequence[str]) -> Iterator[tuple[str, str]]:
 
 
 def in_place(command: str, before: str, word: str) -> str:
-    """Returns what to write in place of a word that isn't a file but stands where a file belongs, behind the word `before`; an
-    empty text if unknown."""
+    """Returns the replacement for a word that isn't a file but occurs where a file belongs, after the word `before`; an empty text
+    if unknown."""
     if before in OF_OPTIONS:
         return in_place_of_value(before, word)
     if command in OF_NETS and before == "" and not word.startswith("-") and (command, word) != ("search", "run"):
@@ -216,7 +215,7 @@ def in_place(command: str, before: str, word: str) -> str:
 
 
 def in_place_of_value(option: str, word: str) -> str:
-    """Returns the option to write for a value that isn't a file, such as link words behind --up-trace; an empty text if unknown."""
+    """Returns the option to write for a value that isn't a file, such as link words after --up-trace; an empty text if unknown."""
     if option == "--config" and kind_of_text(word.encode(errors="replace")) == "config":
         return f"--line {shlex.quote(word)}"
     if option == "--faults" and " " in word:
@@ -235,7 +234,7 @@ def in_place_of_net(command: str, word: str) -> str:
 
 
 def line_for_word(command: str, own: Sequence[str]) -> str:
-    """Returns the line to type in place of a first word or an option that people try; an empty text if there is none."""
+    """Returns the line to type for a first word or an option that people try; an empty text if unknown."""
     for word, following in zip(own, [*own[1:], "-"]):
         name, _, value = word.partition("=")
         if f"{command} {name}" not in MEANT:
@@ -248,7 +247,7 @@ def line_for_word(command: str, own: Sequence[str]) -> str:
 
 
 def in_place_of_words(command: str, words: Sequence[str], refusal: str) -> str:
-    """Returns what to write in place of the first word of a command that belongs elsewhere; an empty text if there is none."""
+    """Returns the replacement for a command's first misplaced word; an empty text if all words are in their places."""
     if command == "try" and words and near(words[0]):
         return f"--preset {near(words[0])}"
     line = line_for_word(command, words)
@@ -286,12 +285,12 @@ def advised(command: str, words: Sequence[str], refusal: str) -> str:
 
 
 def wrong_file(command: str, words: Sequence[str], refusal: str) -> str:
-    """Returns what the first file is that doesn't belong in its place, and the line to type; an empty text without such a file, or if
-    the refusal says so. OSError, Fault: a file can't be read."""
-    files = [(path, kind_of(path), wanted.split()) for path, wanted in files_in(command, words)]
-    for path, kind, wanted in files:
+    """Returns the kind of the first misplaced file, and the line to type; an empty text if all files are in their places, or if
+    the refusal says the same. OSError, Fault: a file can't be read."""
+    files = [(path, kind_of(path), kinds.split()) for path, kinds in files_in(command, words)]
+    for path, kind, expected_kinds in files:
         lacks_others = len(files) < 3 and (command, kind) == ("why", "config") or "number of a row" in refusal
-        if kind and wanted and (kind not in wanted or lacks_others):
+        if kind and expected_kinds and (kind not in expected_kinds or lacks_others):
             text = filled(line_for(command, kind, path), words)
             is_known = text.partition(";")[0] in refusal or kind == "folder" and "--transcripts" in refusal
             return "" if is_known else f"{path} is {text}"

@@ -1,4 +1,4 @@
-"""What to write in place of other tools' options, for all of a command line's options at once."""
+"""Replacements for other tools' options, for all options in a command line at once."""
 
 from __future__ import annotations
 
@@ -14,15 +14,15 @@ from hingetulip_words.presets import either_way
 OPTION = re.compile(r"(?<!\S)--[\w-]+")
 
 
-def typed_links(given: Mapping[str, Sequence[str]], preset: str) -> list[str]:
-    """Returns the words of the links up and down in a command line's options, or the links of a preset, or empty texts."""
+def links_of_line(values: Mapping[str, Sequence[str]], preset: str) -> list[str]:
+    """Returns the link words up and down from a command line's options, or else from a preset; empty texts without both."""
     up, down = either_way(preset) if preset else ("", "")
-    both = given.get("--link", ())
-    return [" ".join(given.get("--up", both)) or up, " ".join(given.get("--down", both)) or down]
+    both = values.get("--link", ())
+    return [" ".join(values.get("--up", both)) or up, " ".join(values.get("--down", both)) or down]
 
 
 def is_idle(link: str) -> bool:
-    """Returns whether link words have a queue without a bandwidth, so that no packet ever waits."""
+    """Returns whether link words contain a queue without a bandwidth, so that no packet ever waits."""
     return "queue" in link.split() and not re.search(r"/s\b|\bbw\b", link)
 
 
@@ -33,8 +33,8 @@ def link_options(links: Sequence[str]) -> str:
 
 
 def option_in_place(option: str, value: str, names: Collection[str]) -> str:
-    """Returns what to write in place of another tool's option for a command with the options `names`; an empty text if nothing
-    does what the option requests."""
+    """Returns the replacement for another tool's option, if a command accepts the options `names`; an empty text if no option does
+    the same."""
     forms, value = one_way(option, value)
     if forms[0].startswith(("--link", "--up ", "--down ")):
         value = corrected(value) or value
@@ -42,38 +42,39 @@ def option_in_place(option: str, value: str, names: Collection[str]) -> str:
     return filled(", or ".join(usable), shlex.quote(value))
 
 
-def of_options(typed: Sequence[tuple[str, str]], given: Mapping[str, Sequence[str]], names: Collection[str]) -> str:
-    """Returns a message for options of other tools: what to write in place of them all, and what nothing replaces. `typed` contains
-    these options with their values, `given` the typed values of known options, and `names` all options of the command."""
-    meant = Meant("ours", [word for option, value in typed if option not in OPTIONS for word in (option, value)])
-    added = [*meant.options()[1:], *filter(None, map(corrected, meant.rest))]
+def of_options(options: Sequence[tuple[str, str]], values: Mapping[str, Sequence[str]], names: Collection[str]) -> str:
+    """Returns the message that refuses other tools' `options`, each with its value: the replacement for them all, and the options
+    without a replacement. `values` contains the values of the command line's known options, and `names` the command's options."""
+    meant = Meant("ours", [word for option, value in options if option not in OPTIONS for word in (option, value)])
+    new_words = [*meant.options()[1:], *filter(None, map(corrected, meant.rest))]
     unknown = [f"{words!r} isn't such a value" for words in meant.rest if not corrected(words)]
-    preset = " ".join(given.get("--preset", ())) if added else ""
-    old_links = typed_links(given, preset)
-    links = [" ".join([link, *added]).strip() for link in old_links]
-    refused = ", ".join(dict(typed))
+    preset = " ".join(values.get("--preset", ())) if new_words else ""
+    old_links = links_of_line(values, preset)
+    links = [" ".join([link, *new_words]).strip() for link in old_links]
+    option_names = ", ".join(dict(options))
     for old, link in zip(old_links, links):
         if corrected(old) and not corrected(link):
-            return f"{refused}: leave this out, as the link says {old!r}"
+            return f"{option_names}: leave this out, as the link says {old!r}"
     lacks_bandwidth = any(map(is_idle, links))
     parts = []
-    if added:
+    if new_words:
         parts.append(link_options([f"10Mbit/s {link}" for link in links] if lacks_bandwidth else links))
     if preset:
         parts.append(f"in place of --preset {preset}")
-    for option, value in typed:
+    for option, value in options:
         if option in OPTIONS:
             add_part(parts, meant.left, option, option_in_place(option, value, names))
     notes = [f"write {' '.join(parts)}".replace(" ; ", "; ")] if parts else []
     if lacks_bandwidth:
         notes.append("10Mbit/s is an example, as no packet waits without a bandwidth")
-    return f"{refused}: {'; '.join([*notes, *(f'no link does: {what}' for what in meant.left), *unknown])}"
+    return f"{option_names}: {'; '.join([*notes, *(f'no link does: {what}' for what in meant.left), *unknown])}"
 
 
-def add_part(parts: list[str], left: list[str], option: str, text: str) -> None:
-    """Adds the text in place of an option to the parts of a line, or, without a text, the option to those that nothing replaces."""
+def add_part(parts: list[str], unsupported: list[str], option: str, text: str) -> None:
+    """Adds an option's replacement to a line's parts, or, if the text is empty, adds the option to the options without a
+    replacement."""
     if not text:
-        left.append(f"{option} here")
+        unsupported.append(f"{option} here")
     elif parts and not text.startswith("-"):
         parts.append(f"; write {text}")
     else:

@@ -19,8 +19,8 @@ HINGE = (sys.executable, str(PACKAGE / "__main__.py"))
 
 
 def places(name: str, *in_repository: str) -> Iterator[Optional[str]]:
-    """Yields a program's possible locations in order: this package's clone, the package, `bin` in each enclosing folder, and
-    the path. The version that was installed with the package thus comes before others on the path."""
+    """Yields a program's possible locations in order: this package's clone, the package, `bin` in each enclosing folder, and the
+    path. The version that was installed with the package thus precedes other versions on the path."""
     for place in in_repository:
         yield str(REPOSITORY / place)
     yield str(PACKAGE / name)
@@ -30,8 +30,8 @@ def places(name: str, *in_repository: str) -> Iterator[Optional[str]]:
 
 
 def program_named(variable: str, name: str, *in_repository: str) -> str:
-    """Returns the path of the program that an environment variable names, or else the first path in `places`. Fault: no program
-    is there."""
+    """Returns the path to a program: the environment variable's value, or the first program in `places`. Fault: there is no
+    program."""
     path = os.environ.get(variable)
     if path:
         if is_program(path):

@@ -75,7 +75,7 @@ class Check:
     """Checks files in their order; packet files come last, against the last configuration."""
 
     def __init__(self, limit: Optional[int]) -> None:
-        """Acts on a net's hosts may be late by at most the limit, in ns; None stands for the run's own limit."""
+        """Acts on a net's hosts may be late by at most the limit, in ns; None means the limit in the run."""
         self.findings = Findings()
         self.lines: Optional[LineCheck] = None  # of the last configuration
         self.packet_files: list[PacketFile] = []
@@ -145,12 +145,12 @@ class Check:
             tell("nothing to say")
 
 
-def check_of_text(typed: str) -> str:
+def check_of_text(text: str) -> str:
     """Returns the command that checks a configuration line, a net's line or link words that were typed in place of a file; an empty
     text for other words."""
-    kind = kind_of_text(typed.encode(errors="replace"))
-    link = corrected(typed, Place.DUMMYNET)
-    line = f"pipe 1 config {in_full(read_link(link))}" if link else typed
+    kind = kind_of_text(text.encode(errors="replace"))
+    link = corrected(text, Place.DUMMYNET)
+    line = f"pipe 1 config {in_full(read_link(link))}" if link else text
     if kind == "net":
         command = "net --dry-run"
     elif link or kind == "config":

@@ -51,7 +51,7 @@ def page_named(folder: Path, name: str) -> str:
 
 
 def advice_on(name: str, similar: Sequence[str]) -> str:
-    """Returns what to write in place of a page's wrong name: a command's help, a page on the subject, or a similar name."""
+    """Returns advice on a page's wrong name: a command's help, a page on the subject, or a similar name."""
     from hinge.__main__ import COMMANDS  # only a wrong name needs these modules
     from hinge.foreign_words import WORDS
 

@@ -1,4 +1,5 @@
-"""The command `hinge doctor`, which prints what works on this machine, why other things don't, and which packages to install."""
+"""The command `hinge doctor`, which prints the kit's abilities on this machine, reasons for missing abilities, and packages to
+install."""
 
 from __future__ import annotations
 
@@ -38,7 +39,7 @@ def last_line(text: str) -> str:
 
 @lru_cache(maxsize=None)
 def of_run(*options: str) -> Finding:
-    """Runs `true` behind a link with these options of `hinge run`; returns the finding."""
+    """Runs `true` over a link with these options for `hinge run`; returns the finding."""
     words = [*HINGE, "run", "--quiet", *options, "--", "true"]
     try:
         answer = asked(words, statuses=range(SIGNALLED), limit=LIMIT)
@@ -78,7 +79,7 @@ def has_outside() -> bool:
 
 
 def links() -> Finding:
-    """Returns whether links in real time work. A run with --outside has links, too, so that no second run is needed if it works."""
+    """Returns whether links in real time work. A run with --outside uses links, too, so no second run is needed if it works."""
     if has_outside() and not of_run("--outside").why:
         return Finding()
     return of_run()
@@ -101,7 +102,7 @@ def simulated() -> Finding:
 
 
 def modules(**packages: str) -> Finding:
-    """Returns whether all of these modules of Python load; each argument is a module's name and Debian's package."""
+    """Returns whether all these Python modules load; each argument is a module's name and Debian's package."""
     missing = {name: package for name, package in packages.items() if not is_loaded(name, package)}
     if not missing:
         return Finding()

@@ -116,8 +116,8 @@ def is_net(options: LookOptions) -> bool:
 
 
 def look_at_ways(options: LookOptions, fault: Fault) -> None:
-    """Prints the table of a net's ways (directions of links) from the net's history, without numpy. Fault: always, since the hosts
-    and paths need numpy."""
+    """Prints a net's table, a row for each way (one direction of a link), without numpy. Fault: always, since the hosts and paths
+    need numpy."""
     from hinge.paths.folder import session_of
     from hinge.replays.looked import look
 

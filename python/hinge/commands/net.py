@@ -106,7 +106,7 @@ def descriptor(text: str) -> int:
 
 
 def command_line(words: Sequence[str]) -> NetOptions:
-    """Returns the options; their field `command` is the main command, which comes after `--`."""
+    """Returns the options, in which `command` is the main command from after `--`."""
     end = words.index("--") if "--" in words else len(words)
     return NetOptions(**vars(options().parse_args(words[:end])), command=list(words[end + 1 :]))
 

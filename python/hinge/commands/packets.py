@@ -66,8 +66,8 @@ def bit_rate(text: str) -> int:
 
 
 def loss_model(text: str) -> tuple[str, Maker]:
-    """Returns the target of a loss model, such as `pipe,1`, and a function that creates the model; an empty target stands for all
-    pipes and queues. ArgumentTypeError: the text has another form."""
+    """Returns a loss model's target, such as `pipe,1`, and a function that creates the model; an empty target means all pipes and
+    queues. ArgumentTypeError: the text has another form."""
     target, equals, model = text.rpartition("=")
     match = TARGET.match(target.strip())
     try:
@@ -167,7 +167,7 @@ def main() -> None:
 
 
 def write_packets(options: PacketsOptions, capture: Input) -> Product:
-    """Writes a capture's packet file, its index and its addresses; returns what was written. Fault: a rule of --map needs --from."""
+    """Writes a capture's packet file, index and addresses; returns the counts. Fault: a rule of --map needs --from."""
     try:
         targets = Targets(options.map, options.sender)
     except BadRule as bad:
@@ -181,7 +181,7 @@ def write_packets(options: PacketsOptions, capture: Input) -> Product:
 
 
 def tell(product: Product, options: PacketsOptions) -> None:
-    """Prints on standard error how many packets were written and left out, and what stands for IPv6 addresses."""
+    """Prints on standard error how many packets were written and left out, and the replacements for IPv6 addresses."""
     names = product.addresses.stand_ins
     for address, stand_in in islice(names.items(), MOST_ADDRESSES):
         say(f"{stand_in} stands for {address}")

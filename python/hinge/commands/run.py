@@ -91,7 +91,7 @@ def command_line(words: Optional[Sequence[str]] = None) -> RunOptions:
 
 
 def refuse_beside_netns(run: RunOptions) -> None:
-    """Refuses options that configure hosts, beside --netns, whose hosts exist already. Wrong: there is such an option."""
+    """Refuses options that configure hosts if --netns joins existing hosts. Wrong: there is such an option."""
     names = [f"--{name.replace('_', '-')}" for name in OF_OWN_HOSTS if getattr(run, name)]
     from hinge.run.words import Wrong
 
@@ -116,7 +116,7 @@ def main() -> None:
 
 
 def tell_hints(run: RunOptions) -> None:
-    """Prints hints on options or commands that probably don't do what the user means."""
+    """Prints hints on options or commands that the user probably means differently."""
     from hinge.run.hints import hints
 
     for hint in hints(run):

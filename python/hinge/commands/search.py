@@ -111,8 +111,7 @@ def refuse_run_options(options: SearchOptions) -> None:
 
 
 def failure_file(options: SearchOptions) -> Path:
-    """Returns the path of the file for the failure. Fault: the file of a net's failure isn't beside the net, whose commands use the
-    net's folder."""
+    """Returns the path for the failure's file. Fault: the file isn't in the net's folder, which the net's commands use."""
     net = options.net
     if net is None:
         return options.failure or Path(FAILURE)

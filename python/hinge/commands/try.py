@@ -50,7 +50,7 @@ class Sender:
         self.newest = -1  # the last place in the order of sending that arrived
 
     def next(self) -> Optional[int]:
-        """Returns the next segment to send; None if no segment waits, or the window has no room."""
+        """Returns the next segment to send; None if no segment waits, or the window is full."""
         if not self.waiting or len(self.under_way) >= self.window:
             return None
         segment = self.waiting.popleft()
@@ -69,7 +69,7 @@ class Sender:
         self.lose([segment for segment, place in self.under_way.items() if place < self.newest - DUPLICATES])
 
     def lose(self, segments: Sequence[int]) -> None:
-        """Puts these segments before all others that wait, and halves the window unless this loss was counted already."""
+        """Puts these segments before all waiting segments, and halves the window unless an earlier loss covers this loss."""
         if segments and max(map(self.under_way.__getitem__, segments)) >= self.halved_till:
             self.threshold = self.window = max(self.window / 2, 2.0)
             self.halved_till = self.sent
@@ -79,7 +79,7 @@ class Sender:
 
 
 class Download:
-    """Emulates the download. All segments go down, and for each an acknowledgement with the number of arrived segments comes up."""
+    """Emulates the download. Each segment down causes an acknowledgement up, with the count of segments so far."""
 
     def __init__(self, path: Path, links: tuple[str, str]) -> None:
         from hingetulip.recorded import RecordedShaper  # a help doesn't need this library, which may be missing
@@ -108,8 +108,8 @@ class Download:
             self.sender.acknowledged(self.arrived[:content])
 
     def run(self) -> None:
-        """Downloads all segments, by going from each moment at which something happens on a link to the next. If nothing more
-        happens, a timeout passes."""
+        """Downloads all segments, by going from each moment at which something happens on a link to the next. If both links are
+        idle, a timeout passes."""
         while self.sender.waiting or self.sender.under_way:
             while (segment := self.sender.next()) is not None:
                 self.submit(DOWN, SEGMENT, segment)
@@ -134,7 +134,7 @@ def drawn(name: str, values: list[float]) -> Iterator[str]:
 
 
 def bar(height: float) -> str:
-    """Returns the letter of a bar that fills this part of a line; below 0 or above 1 the line is empty or full."""
+    """Returns the letter for a bar that fills this part of a line, from 0 for empty to 1 for full."""
     letters = f" {blocks()}"
     part = min(max(height, 0), 1)
     return letters[math.ceil(part * (len(letters) - 1))]
@@ -164,7 +164,7 @@ def picture(replay: Replay, span: int) -> Iterator[str]:
 
 
 def longest_queues(waits: list[tuple[int, int]], step: int) -> list[float]:
-    """Returns the most packets that wait at once in each step of the picture, from the beginnings and ends of all waits."""
+    """Returns the longest queue in each step, from the beginnings and ends of all waits."""
     queues = [0.0] * STEPS
     changes = [(begin, 1) for begin, _ in waits] + [(end, -1) for _, end in waits]
     waiting = 0
@@ -181,7 +181,7 @@ def longest(replay: Replay) -> int:
 
 
 def told(path: Path, name: str, links: tuple[str, str], kept: Optional[str]) -> Iterator[str]:
-    """Downloads, and yields the command's output. The history goes to `path`; `kept` is the name under which the user keeps it."""
+    """Downloads, and yields the command's output. Writes the history to `path`, which the user keeps as `kept`."""
     began = time.monotonic()
     transfer = Download(path, links)
     transfer.run()

@@ -73,7 +73,7 @@ def found_address(address: SocketAddress, family: int) -> tuple[int, tuple[str, 
 
 
 def links_in_order(words: list[str]) -> list[str]:
-    """Returns the configuration lines of the arguments LINK. An argument with a space is a line, any other is a file of lines.
+    """Returns the configuration lines of the arguments LINK. An argument with a space is a line, otherwise a file with lines.
     Wrong: an argument consists of link words."""
     lines = list[str]()
     for word in words:
@@ -112,7 +112,7 @@ def bound_socket(address: SocketAddress) -> socket.socket:
 
 
 def what_is_carried(order: Order, front: socket.socket, server: tuple[str, int]) -> int:
-    """Forwards datagrams between a socket and the server until a signal comes; returns the exit status."""
+    """Forwards datagrams between a socket and the server until a signal arrives; returns the exit status."""
     page = Page()
     processes = Processes(SIGNALS)
 

@@ -22,7 +22,7 @@ class LineFault(Fault):
 
 @dataclass(frozen=True)
 class Limit:
-    """Describes how many packets or kilobytes a queue can hold; one of the two is None."""
+    """Describes how many packets or kilobytes a queue can hold; the other field is None."""
 
     slots: Optional[int]
     kbytes: Optional[int]

@@ -43,7 +43,7 @@ class LeftOut(Exception):
 
 
 class Candidate(NamedTuple):
-    """Describes a configuration line that the program dummynet hasn't judged yet."""
+    """Describes a configuration line that the program dummynet hasn't checked yet."""
 
     note: int  # the number of notes before this line's
     place: str
@@ -53,7 +53,7 @@ class Candidate(NamedTuple):
 
 @dataclass
 class Conversion:
-    """Holds the configuration lines converted so far, and notes on what was changed or left out."""
+    """Holds the converted configuration lines, and notes on changes and omissions."""
 
     variables: dict[str, str] = field(default_factory=dict)
     lines: list[str] = field(default_factory=list)
@@ -86,8 +86,8 @@ class Conversion:
             self.say(place, f"left out: {command.strip()} ({reason})")
 
     def unsure(self, commands: list[str]) -> Optional[str]:
-        """Returns why one of a line's commands can't be converted: it has a variable that only a shell knows, or configures a
-        scheduler; None without such a command."""
+        """Returns why a command in a line can't be converted: the command contains a variable that only a shell knows, or
+        configures a scheduler. Returns None if all commands can be converted."""
         for command in (self.expanded(command) for command in commands):
             if UNSURE.search(command) and not HEAD.search(command) and not SHOWS.search(command):
                 unknown = VARIABLE.search(command) or re.search(r"\$\S+", command)
@@ -146,7 +146,7 @@ class Conversion:
         self.say(place, "all pipes and queues are deleted here, so the lines before have no effect")
 
     def expanded(self, text: str) -> str:
-        """Returns the text, with the values of shell variables that the files set in place of their names."""
+        """Returns the text, in which values replace the shell variables that the files set."""
 
         def value(match: re.Match[str]) -> str:
             default = match[0] if match[2] is None else match[2]
@@ -166,7 +166,8 @@ class Conversion:
         yield words[:3] + list(Options(self, place, kind, words[3:]).words())
 
     def settle(self) -> None:
-        """Has dummynet judge all candidates at once; keeps the lines that it accepts, and notes the others as left out."""
+        """Checks all candidates in a single session with dummynet; keeps the accepted lines, and notes the omission of other
+        lines."""
         candidates = self.candidates
         if not candidates:
             return
@@ -185,7 +186,7 @@ class Conversion:
 
 
 def reason_of(verdict: Verdict, candidate: Candidate) -> str:
-    """Returns why dummynet refused a line: the wrong word of a bad line, or the fault of a line that can't be obeyed."""
+    """Returns why dummynet refused a line: the wrong word in a bad line, or the verdict on a correct line."""
     if verdict.name != "bad":
         return verdict.name.replace("-", " ")
     place, _, fault = verdict.text.partition(": ")
@@ -202,7 +203,7 @@ class Options:
     option_words: list[str]
 
     def words(self) -> Iterator[str]:
-        """Yields the options and their values in dummynet's spelling, without options that have no effect here."""
+        """Yields the options and their values in dummynet's spelling, without options that do nothing here."""
         words = iter(self.option_words)
         for word in words:
             if word in WITHOUT_EFFECT:
@@ -241,8 +242,7 @@ class Options:
         return f"{kbytes}Kbytes"
 
     def mask(self, mask_field: str, text: str) -> str:
-        """Returns a flow mask's value in dummynet's spelling. LeftOut: the mask has a prefix length other than the whole
-        field's."""
+        """Returns a flow mask's value in dummynet's spelling. LeftOut: the mask's prefix is shorter than the field."""
         slash, whole = WHOLE_MASKS[mask_field]
         if text.startswith("/") and text != slash:
             raise LeftOut(f"{mask_field} {text}: write the bits as a number")
