@@ -20,10 +20,20 @@ def add(parser: argparse._ActionsContainer, words: str, text: str, **more: Any) 
 
 
 class Joined(argparse.Action):
-    """An option whose repetition continues its value, as in `--link 10Mbit/s --link 20ms`."""
+    """Continues an option's value when the option occurs again, as in `--link 10Mbit/s --link 20ms`."""
 
     def __call__(self, parser: argparse.ArgumentParser, namespace: argparse.Namespace, values: object, option: Any = None) -> None:
         setattr(namespace, self.dest, values)
+
+
+def refuse_repetition(action: argparse.Action, before: list[str], texts: list[str]) -> None:
+    """Checks an option that occurs again. ArgumentError: a list contains a value twice, or the option's value differs."""
+    if isinstance(action, argparse._AppendAction):
+        if {*texts} & {*before}:
+            raise argparse.ArgumentError(action, f"{' '.join(texts)!r} is given twice; write one of them")
+    elif before != texts or isinstance(action, argparse.BooleanOptionalAction):
+        behind = f"{' '.join(texts)!r} comes behind {' '.join(before)!r}; " if texts else ""
+        raise argparse.ArgumentError(action, f"{behind}write one of them")
 
 
 class Rule(NamedTuple):
@@ -89,18 +99,14 @@ class Parser(argparse.ArgumentParser):
         if not action.option_strings:
             return super()._get_values(action, texts)
         option = action.option_strings[0]
-        is_list = isinstance(action, argparse._AppendAction)
         if not all(text.strip() for text in texts):
             raise argparse.ArgumentError(action, "its value is empty; is a variable unset?")
         before = self.given.get(option, [])
         if before and isinstance(action, Joined):
             texts = [" ".join([*before, *texts])]
-        elif is_list and {*texts} & {*before}:
-            raise argparse.ArgumentError(action, f"{' '.join(texts)!r} is given twice; write one of them")
-        elif option in self.given and not is_list and (before != texts or isinstance(action, argparse.BooleanOptionalAction)):
-            behind = f"{' '.join(texts)!r} comes behind {' '.join(before)!r}; " if texts else ""
-            raise argparse.ArgumentError(action, f"{behind}write one of them")
-        self.given[option] = [*before, *texts] if is_list else texts
+        elif option in self.given:
+            refuse_repetition(action, before, texts)
+        self.given[option] = [*before, *texts] if isinstance(action, argparse._AppendAction) else texts
         return super()._get_values(action, texts)
 
     def value_fault(self, fault: re.Match[str]) -> str:

@@ -27,7 +27,7 @@ LINE = re.compile(r"(?P<link>\S.* > .*\S) packet (?P<packet>[1-9]\d{0,17}) (?:(?
 TIME = r"\d{1,9}(?:\.\d{1,9})?(?:ms|s)"
 ACT = re.compile(rf"at (?P<moment>{TIME}) (?P<kind>{'|'.join(ACTS)}) (?P<of>\S(?:.*\S)?) (?P<sign>[+-]?)(?P<length>{TIME})")
 LATEST = 3_600_000  # the most ms that a pipe can delay a packet
-FAULT_ADVICE = (  # what people write, and the line that says it
+FAULT_ADVICE = (  # patterns of lines that people write, and their replacements
     (r"(?:lose|drop) (.*)", r"\1 lost"),
     (r"(?!packet)(\w+)(?: ?[-=]?> ?| to | )(?!packet)([A-Za-z]\w*) (?:packet )?(\d.*)", r"\1 > \2 packet \3"),
     (r"(?:up )?(packet \d.*)", r"client > server \1"),
@@ -142,11 +142,14 @@ def faults_in(path: Union[str, Path], lines: Iterable[str]) -> Faults:
     faults = dict[object, Either]()
     for number, line in enumerate(lines, 1):
         text = line.partition("#")[0].strip()
+        if not text:
+            continue
         try:
-            fault = read_fault(text) if text else None
+            fault = read_fault(text)
             subject = (fault.link, fault.packet, fault.kind) if isinstance(fault, Fault) else fault
-            if fault and faults.setdefault(subject, fault) is not fault:
+            if subject in faults:
                 raise ValueError(f"{text!r}: a line before says this; leave one of them out")
+            faults[subject] = fault
         except ValueError as error:
             raise ValueError(f"{path} line {number}: {error}") from None
     return Faults(*faults.values())

@@ -64,7 +64,7 @@ class FaultyNetwork(Network):
             name = f"{getattr(near, 'name', near)} > {getattr(far, 'name', far)}"
             more.update(loss=Listed(self.packets_of(name, IS_LOST)))
         link = super().link(near, far, options, **more)
-        if self.chosen is not None and not float(link.options.settings["plr"]):  # under which no word loses a packet
+        if self.chosen is not None and not float(link.options.settings["plr"]):  # at the loss rate 0 no word loses a packet
             link.change(f"{link.options.without('plr')} plr {BY_MODEL}")
         return link
 

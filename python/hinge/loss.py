@@ -178,7 +178,7 @@ def read_rates(text: str) -> list[Fraction]:
     return rates + [Fraction(1), Fraction(0)][len(rates) - 2 :]
 
 
-Maker = Callable[[int, int], Words]  # of a seed and a direction
+Maker = Callable[[int, int], Words]  # creates a model from a seed and a direction
 
 
 def read_model(text: str) -> Maker:

@@ -175,7 +175,7 @@ def writing(name: Optional[str]) -> Iterator[TextIO]:
 
 def write_json(path: str, record: Mapping[str, object]) -> None:
     """Writes a JSON record, to a file or to standard output."""
-    import json  # which takes longer to load than a help may
+    import json  # a help must not load this slow module
 
     with writing(path) as file:
         json.dump(record, file, indent=1)

@@ -77,7 +77,7 @@ class Check:
     def __init__(self, limit: Optional[int]) -> None:
         """Acts on a net's hosts may be late by at most the limit, in ns; None means the limit in the run."""
         self.findings = Findings()
-        self.lines: Optional[LineCheck] = None  # of the last configuration
+        self.lines: Optional[LineCheck] = None  # the check of the last configuration
         self.packet_files: list[PacketFile] = []
         self.net = ""  # the file of a net, whose sessions are the arguments behind the file
         self.limit = limit

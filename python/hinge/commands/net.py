@@ -61,6 +61,7 @@ the links broke off; 76 two runs by --twice differ; 77 a deadlock, and 78 it was
 
 
 def options() -> Parser:
+    """Returns a parser for the command line."""
     parser = new_parser(WHAT, EXAMPLE, STATUSES, USAGE, WORDS)
     parser.add_argument("file", metavar="FILE", help="the net")
     parser.add_argument("--transcript", metavar="FILE", help="the history of all links, for `dummynet audit` and `hinge look`")

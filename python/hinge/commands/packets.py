@@ -17,7 +17,7 @@ from hinge.captures.packet_rows import Product, write_rows
 from hinge.captures.rule_words import HELP, TARGET, BadRule
 from hinge.captures.targets import MapRule, Targets, directions, read_rule
 from hinge.command import USAGE, Fault, new_parser, say
-from hinge.command_line import add
+from hinge.command_line import Parser, add
 from hinge.loss import Maker, read_model
 from hinge.outputs import refuse_inputs, writing
 from hingetulip_words.values import value_fault, value_number
@@ -33,6 +33,23 @@ EXAMPLE = """\
 hinge packets capture.pcap -o packets.csv --from 10.0.0.0/8 --mtu 1500 --l2 22
   hinge packets capture.pcap -o packets.csv --index index.csv \\
       --map 'src 10.0.0.0/8 udp => queue 2' --map '=> queue 1'"""
+FROM = (
+    "send one direction to pipe 1 and the other to pipe 2. WHO sends the first: an address or a network, or `first` for the one of "
+    "two hosts that sends first"
+)
+MAP = (
+    "'WORDS => pipe N' or 'WORDS => queue N'; the first rule that matches counts. A frame that none matches goes by --from, and is "
+    f"left out without it. WORDS are those of `hinge run`, which must all hold: {HELP}; up and down are by --from. No words match "
+    "every frame. Default: => pipe 1"
+)
+MTU = "split larger segments, which the card was still to cut, into packets of at most N bytes"
+RATE = "with --mtu, the rate at which the card sends the packets of a segment, as 1Gbit/s (default: all at once)"
+LOSS = (
+    "which packets are lost where the pipe or queue has `plr 0.5`, of each by itself: gilbert:TO_BAD,TO_GOOD[,IN_BAD[,IN_GOOD]], a "
+    "link with a good and a bad state, the rates at which they change, and those of losses in the bad one (1) and the good one (0); "
+    "or list:3,17-20, by the packets' numbers. 'pipe 1=MODEL' is for one pipe or queue. Default: random words, which its own plr "
+    "judges"
+)
 
 
 def map_rule(text: str) -> MapRule:
@@ -100,54 +117,25 @@ class PacketsOptions:
         return None if self.o == "-" else self.o
 
 
-def command_line() -> PacketsOptions:
+def options_parser() -> Parser:
+    """Returns a parser for the command line."""
     parser = new_parser(WHAT, EXAMPLE)
     parser.add_argument("capture", help="the capture; `-` is standard input")
     parser.add_argument("-o", metavar="FILE", help="the packet file (default: standard output)")
-    add(
-        parser,
-        "--from WHO",
-        "send one direction to pipe 1 and the other to pipe 2. WHO sends the first: an address or a network, or `first` for the one of two hosts that sends first",
-        type=two_directions,
-        dest="sender",
-        default=[],
-    )
-    add(
-        parser,
-        "--map RULE",
-        "'WORDS => pipe N' or 'WORDS => queue N'; the first rule that matches counts. A frame that none matches goes by --from, "
-        f"and is left out without it. WORDS are those of `hinge run`, which must all hold: {HELP}; up and down are by --from. No words "
-        "match every frame. Default: => pipe 1",
-        type=map_rule,
-        action="append",
-        default=[],
-    )
-    add(
-        parser,
-        "--mtu N",
-        "split larger segments, which the card was still to cut, into packets of at most N bytes",
-        type=bounded(256, 65535),
-        default=0,
-    )
-    add(
-        parser,
-        "--rate RATE",
-        "with --mtu, the rate at which the card sends the packets of a segment, as 1Gbit/s (default: all at once)",
-        type=bit_rate,
-        default=0,
-    )
+    add(parser, "--from WHO", FROM, type=two_directions, dest="sender", default=[])
+    add(parser, "--map RULE", MAP, type=map_rule, action="append", default=[])
+    add(parser, "--mtu N", MTU, type=bounded(256, 65535), default=0)
+    add(parser, "--rate RATE", RATE, type=bit_rate, default=0)
     add(parser, "--l2 N", "bytes that the link adds to each packet; PPPoE over Ethernet has 22", type=bounded(0, 1000), default=0)
     parser.add_argument("--seed", metavar="S", type=bounded(0, 2**64 - 1), default=1, help="of the random words (default: 1)")
-    add(
-        parser,
-        "--loss MODEL",
-        "which packets are lost where the pipe or queue has `plr 0.5`, of each by itself: gilbert:TO_BAD,TO_GOOD[,IN_BAD[,IN_GOOD]], a link with a good and a bad state, the rates at which they change, and those of losses in the bad one (1) and the good one (0); or list:3,17-20, by the packets' numbers. 'pipe 1=MODEL' is for one pipe or queue. Default: random words, which its own plr judges",
-        type=loss_model,
-        action="append",
-        default=[],
-    )
+    add(parser, "--loss MODEL", LOSS, type=loss_model, action="append", default=[])
     parser.add_argument("--index", metavar="FILE", help="write the frame number of each row, for `hinge look --capture`")
     parser.needs("--rate", "--mtu")
+    return parser
+
+
+def command_line() -> PacketsOptions:
+    parser = options_parser()
     arguments = parser.parse_args()
     if (arguments.o or "").endswith((".pcap", ".pcapng", ".png", ".html")):
         parser.error(f"-o {arguments.o}: a packet file is a table; write -o {arguments.o.rpartition('.')[0]}.csv")

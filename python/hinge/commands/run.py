@@ -35,6 +35,7 @@ differ; 77 a deadlock, and 78 it was ended by --limit, in simulated time; 124 it
 
 
 def options() -> Parser:
+    """Returns a parser for the command line."""
     parser = new_parser(WHAT, EXAMPLE, STATUSES, USAGE)
     add_link(parser)
     more = parser.add_argument_group("the run")
@@ -145,7 +146,7 @@ def begin(run: RunOptions) -> NoReturn:
     if not is_simulated():
         tell_hints(run)
     sys.stdout.flush()
-    # Before this process leaves the network that it joins.
+    # The outside and the ports begin in the network that this process leaves below.
     outside = Outside(run.outside_loopback, ends.network) if run.outside or run.outside_loopback else None
     ports = Ports(run.to) if run.to else None
     silent = ports.silent() if ports is not None else ()

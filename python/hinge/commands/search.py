@@ -57,6 +57,7 @@ class SearchOptions:
 
 
 def options_parser() -> Parser:
+    """Returns a parser for the command line before `--`."""
     parser = new_parser(
         WHAT, EXAMPLE, "0 no run failed, 1 one did, 2 a wrong word, 6 files or the system, 76 its failure doesn't come again"
     )

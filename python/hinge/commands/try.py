@@ -42,7 +42,7 @@ class Sender:
 
     def __init__(self) -> None:
         self.window = 10.0  # segments that may be under way
-        self.threshold = float("inf")  # the window above which it grows slowly
+        self.threshold = float("inf")  # the size from which the window grows slowly
         self.sent = 0  # the number of sent segments, repeated ones included
         self.halved_till = 0  # segments sent before this place cause no further halving
         self.waiting = deque(range(SEGMENTS))

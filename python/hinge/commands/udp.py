@@ -91,6 +91,7 @@ def links_in_order(words: list[str]) -> list[str]:
 
 
 def options() -> Parser:
+    """Returns a parser for the command line."""
     parser = new_parser(WHAT, EXAMPLE, STATUSES, "hinge udp [OPTION ..] LISTEN SERVER [LINK ..]")
     add(parser, "listen LISTEN", "PORT or HOST:PORT to which the client sends; port 0 takes a free one", type=SocketAddress.read)
     add(parser, "server SERVER", "PORT or HOST:PORT of the server, of the same family", type=SocketAddress.read)

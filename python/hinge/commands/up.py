@@ -61,6 +61,13 @@ def wait_until_ready(process: "Process[bytes]", socket: str, log: Path) -> list[
     return list(status["silent"])
 
 
+def remove_log(log: Path) -> None:
+    """Removes a log with its folder, unless the folder contains other files."""
+    if [*log.parent.iterdir()] == [log]:
+        log.unlink()
+        log.parent.rmdir()
+
+
 def main() -> None:
     arguments = command_line()
     socket = new_socket(arguments.name)
@@ -87,9 +94,8 @@ def main() -> None:
                 for process in processes:
                     process.terminate()
                     process.wait()
-                if is_new and [*folder.iterdir()] == [log]:
-                    log.unlink()
-                    folder.rmdir()
+                if is_new:
+                    remove_log(log)
             raise
     for line in silent:
         show(line)

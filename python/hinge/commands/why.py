@@ -30,7 +30,7 @@ class WhyOptions(NamedTuple):
 
     rows: list[int]
     files: list[str]
-    config: Optional[str]  # of a packet file's replay
+    config: Optional[str]  # the configuration file of a packet file's replay
 
 
 def command_line() -> WhyOptions:
