@@ -60,11 +60,12 @@ class FaultyNetwork(Network):
         return {fault.packet: fault.ms for fault in faults if fault.link == name and fault.kind == kind}
 
     def link(self, near: Host, far: Host, options: Optional[str] = None, **more: Any) -> Link:
-        if self.chosen is not None:
-            name = f"{getattr(near, 'name', near)} > {getattr(far, 'name', far)}"
-            more.update(loss=Listed(self.packets_of(name, IS_LOST)))
+        if self.chosen is None:
+            return super().link(near, far, options, **more)
+        name = f"{getattr(near, 'name', near)} > {getattr(far, 'name', far)}"
+        more.update(loss=Listed(self.packets_of(name, IS_LOST)))
         link = super().link(near, far, options, **more)
-        if self.chosen is not None and not float(link.options.settings["plr"]):  # at the loss rate 0 no word loses a packet
+        if not float(link.options.settings["plr"]):  # at the loss rate 0 no word loses a packet
             link.change(f"{link.options.without('plr')} plr {BY_MODEL}")
         return link
 

@@ -99,7 +99,7 @@ class Download:
         if fate.packet is not None:
             self.carried[fate.packet] = pipe, content
 
-    def came_out(self, pipe: int, content: int) -> None:
+    def hand_over(self, pipe: int, content: int) -> None:
         """Hands a packet that left a pipe to its receiver: a segment to the client, or an acknowledgement to the server."""
         if pipe == DOWN:
             self.arrived.append(content)
@@ -120,11 +120,11 @@ class Download:
                 continue
             self.moment = wake
             for delivery in self.shaper.collect(wake):
-                self.came_out(*self.carried.pop(delivery.packet))
+                self.hand_over(*self.carried.pop(delivery.packet))
         self.shaper.close()
 
 
-def drawn(name: str, values: list[float]) -> Iterator[str]:
+def panel(name: str, values: list[float]) -> Iterator[str]:
     """Yields a text panel's lines: its name, and a column for each step."""
     most = max(values)
     yield f"{name}, at most {most:,.4g}:"
@@ -155,8 +155,8 @@ def picture(replay: Replay, span: int) -> Iterator[str]:
             waits.append((at, start))
         else:
             drops[at // step] = "x"
-    yield from drawn("Mbit/s that arrive", rates)
-    yield from drawn("packets that wait for the link", longest_queues(waits, step))
+    yield from panel("Mbit/s that arrive", rates)
+    yield from panel("packets that wait for the link", longest_queues(waits, step))
     yield f"drops: {replay.count(FULL):,} by a full queue, {replay.count(LOST):,} by the loss rate"
     yield f"  |{''.join(drops)}".rstrip()
     end = f"{span / SECOND:.2f} s"
@@ -180,7 +180,7 @@ def longest(replay: Replay) -> int:
     return waits.index(max(waits)) + 1
 
 
-def told(path: Path, name: str, links: tuple[str, str], kept: Optional[str]) -> Iterator[str]:
+def output(path: Path, name: str, links: tuple[str, str], kept: Optional[str]) -> Iterator[str]:
     """Downloads, and yields the command's output. Writes the history to `path`, which the user keeps as `kept`."""
     began = time.monotonic()
     transfer = Download(path, links)
@@ -216,7 +216,7 @@ def main() -> None:
         parser.error(str(wrong))
     with scratch() as place:
         path = place / "history"
-        for text in told(path, arguments.preset, (link.up, link.down), arguments.transcript):
+        for text in output(path, arguments.preset, (link.up, link.down), arguments.transcript):
             show(text)
         if arguments.transcript:
             with written(arguments.transcript) as target:

@@ -59,7 +59,7 @@ class SocketAddress(NamedTuple):
         return cls(host, int(port))
 
 
-def found_address(address: SocketAddress, family: int) -> tuple[int, tuple[str, int]]:
+def address_in(address: SocketAddress, family: int) -> tuple[int, tuple[str, int]]:
     """Returns the family, numeric host and port of an address; `family` 0 allows any family. Wrong: there is no such address."""
     loopback = "::1" if family == socket.AF_INET6 else "127.0.0.1"
     try:
@@ -72,7 +72,7 @@ def found_address(address: SocketAddress, family: int) -> tuple[int, tuple[str, 
     return info[0], (str(host), int(port))
 
 
-def links_in_order(words: list[str]) -> list[str]:
+def lines_of_links(words: list[str]) -> list[str]:
     """Returns the configuration lines of the arguments LINK. An argument with a space is a line, otherwise a file with lines.
     Wrong: an argument consists of link words."""
     lines = list[str]()
@@ -103,7 +103,7 @@ def options() -> Parser:
 
 def bound_socket(address: SocketAddress) -> socket.socket:
     """Returns a datagram socket at an address. Missing: the system refuses the address."""
-    family, place = found_address(address, socket.AF_INET if not address.host else 0)
+    family, place = address_in(address, socket.AF_INET if not address.host else 0)
     sock = socket.socket(family, socket.SOCK_DGRAM)
     try:
         sock.bind(place)
@@ -112,7 +112,7 @@ def bound_socket(address: SocketAddress) -> socket.socket:
     return sock
 
 
-def what_is_carried(order: Order, front: socket.socket, server: tuple[str, int]) -> int:
+def forward_datagrams(order: Order, front: socket.socket, server: tuple[str, int]) -> int:
     """Forwards datagrams between a socket and the server until a signal arrives; returns the exit status."""
     page = Page()
     processes = Processes(SIGNALS)
@@ -133,9 +133,9 @@ def what_is_carried(order: Order, front: socket.socket, server: tuple[str, int])
     show(f"ready at {socket_address(host, port)}")
     sys.stdout.flush()
     watch = Watch(page) if order.options.watch else None
-    came = processes.wait(link.process, ticker=Ticker(watch.tick) if watch else None)
+    end_signal = processes.wait(link.process, ticker=Ticker(watch.tick) if watch else None)
     link.end()
-    return report(order, page, dropped(), FILES if came is None else 0)
+    return report(order, page, dropped(), FILES if end_signal is None else 0)
 
 
 def main() -> None:
@@ -145,7 +145,7 @@ def main() -> None:
     links = arguments.pop("links")
     mask = signal.pthread_sigmask(signal.SIG_BLOCK, ())
     program()
-    lines = [*arguments.pop("line"), *links_in_order(links)]
+    lines = [*arguments.pop("line"), *lines_of_links(links)]
     files = [word for word in links if " " not in word]
     order = order_of(LiveOptions(**arguments, line=lines, more_files=files), LONGEST, mask)
     if any(extra.corrupt for extra, _ in order.made.extras.values()):
@@ -154,8 +154,8 @@ def main() -> None:
     with bound_socket(listen) as front:
         if not server.port:
             raise Wrong("SERVER: no server listens at port 0; write the server's port")
-        _, place = found_address(server, front.family)
+        _, place = address_in(server, front.family)
         if place == front.getsockname()[:2]:
             raise Wrong(f"SERVER: {socket_address(*place)} is LISTEN itself, and each datagram would come again for ever")
-        status = what_is_carried(order, front, place)
+        status = forward_datagrams(order, front, place)
     sys.exit(status)

@@ -46,8 +46,8 @@ class Candidate(NamedTuple):
     """Describes a configuration line that the program dummynet hasn't checked yet."""
 
     note: int  # the number of notes before this line's
-    place: str
-    command: str
+    place: str  # the file and the line's number
+    command: str  # the command in the file
     line: str
 
 
@@ -58,7 +58,7 @@ class Conversion:
     variables: dict[str, str] = field(default_factory=dict)
     lines: list[str] = field(default_factory=list)
     notes: list[str] = field(default_factory=list)
-    left_out: int = 0  # commands that configure or delete a pipe or queue
+    left_out: int = 0  # the number of omitted commands for pipes and queues
     candidates: list[Candidate] = field(default_factory=list)
     emptied: bool = False  # whether a flush deleted all lines
     budget: Budget = field(default_factory=lambda: Budget(0, ""))  # the letters that variables may still expand to
@@ -77,7 +77,7 @@ class Conversion:
             self.budget.add(TIMES * len(line))
             self.read_line(f"{name}:{number}", line)
 
-    def take(self, place: str, command: str) -> None:
+    def convert(self, place: str, command: str) -> None:
         """Reads a command. If the command can't be converted, counts it as left out, and notes the reason."""
         try:
             self.read_command(place, command)
@@ -85,7 +85,7 @@ class Conversion:
             self.left_out += 1
             self.say(place, f"left out: {command.strip()} ({reason})")
 
-    def unsure(self, commands: list[str]) -> Optional[str]:
+    def reason_to_omit(self, commands: list[str]) -> Optional[str]:
         """Returns why a command in a line can't be converted: the command contains a variable that only a shell knows, or
         configures a scheduler. Returns None if all commands can be converted."""
         for command in (self.expanded(command) for command in commands):
@@ -97,18 +97,18 @@ class Conversion:
     def read_line(self, place: str, line: str) -> None:
         """Reads the commands of a line. A line without commands for pipes and queues gets a single note."""
         commands = [line] if ASSIGNMENT.fullmatch(line.strip()) else BETWEEN_COMMANDS.split(line)
-        reason = self.unsure(commands)
+        reason = self.reason_to_omit(commands)
         if reason is not None:
             self.left_out += 1
             self.say(place, f"left out: {line.strip()} ({reason})")
             return
-        if not any(ASSIGNMENT.fullmatch(command.strip()) or self.asked(command) for command in commands):
+        if not any(ASSIGNMENT.fullmatch(command.strip()) or self.request_in(command) for command in commands):
             self.say(place, f"left out: {line.strip()} (it configures no pipe or queue)")
             return
         for command in commands:
-            self.take(place, command)
+            self.convert(place, command)
 
-    def asked(self, command: str) -> Optional[str]:
+    def request_in(self, command: str) -> Optional[str]:
         """Returns the part of a command that configures, deletes or flushes pipes or queues; None without such a part."""
         text = self.expanded(command)
         match = HEAD.search(text)
@@ -123,7 +123,7 @@ class Conversion:
         if assignment is not None:
             self.variables[assignment[1]] = self.expanded(assignment[2].strip("\"'"))
             return
-        line = self.asked(command)
+        line = self.request_in(command)
         if line is None:
             if re.search(r"(?:^|\s)sched\s+\S+\s+config\b", command):
                 raise LeftOut(SCHEDULER)
