@@ -2,9 +2,9 @@
 
 from __future__ import annotations
 
-from concurrent.futures import ThreadPoolExecutor, as_completed
+from concurrent.futures import FIRST_COMPLETED, Future, ThreadPoolExecutor, wait
 from pathlib import Path
-from typing import Any, Callable, NamedTuple, Optional, Sequence
+from typing import Any, Callable, Iterator, NamedTuple, Optional, Sequence
 
 from hinge.border.files import read_object
 from hinge.border.scratch import scratch, undisturbed
@@ -23,6 +23,7 @@ NO_RUN = "no run of a search"
 OUTPUT = 10_000  # the last letters of what a run printed that are kept
 REFUSED = 6
 WELL = "status 0"
+LOOK_EACH = 0.5  # s: the longest wait for a run, as Python handles a signal that comes just before a wait after the wait
 LONGEST = "86400s"  # of simulated time, after which a run goes on for ever, where --limit says nothing
 
 
@@ -154,6 +155,13 @@ class Runner:
             return self.run(["net", str(file)], case.seed, case.pauses(), watch, look)
 
 
+def completed(tasks: "set[Future[None]]") -> "Iterator[Future[None]]":
+    """Yields the tasks as they end."""
+    while tasks:
+        results, tasks = wait(tasks, LOOK_EACH, FIRST_COMPLETED)
+        yield from results
+
+
 class Runs:
     """The folder of a search. The file run-SEED.json contains a seed's run."""
 
@@ -198,7 +206,7 @@ class Runs:
         bar = Bar("runs", len(todo))
         with ThreadPoolExecutor(at_once) as pool:
             try:  # around what submits them, as the first run may have begun when a signal comes
-                for task in as_completed([pool.submit(self.make, seed) for seed in todo]):
+                for task in completed({pool.submit(self.make, seed) for seed in todo}):
                     task.result()
                     bar.step()
             except BaseException:
