@@ -4,9 +4,8 @@ from __future__ import annotations
 
 import os
 import sys
-from dataclasses import dataclass
 from pathlib import Path
-from typing import TYPE_CHECKING, Optional
+from typing import TYPE_CHECKING, NamedTuple, Optional
 
 from hinge.arguments import bounded, seeds
 from hinge.command import FILES, Fault, new_parser, say
@@ -33,9 +32,8 @@ hinge search store.net --seeds 1-200 --pauses drawn -o lost.hinge
   hinge search run --seeds 1-200 --link '10Mbit/s loss 1%' -- ./client"""
 
 
-@dataclass(frozen=True)
-class SearchOptions:
-    """Describes a search: the net or command, and its runs."""
+class SearchOptions(NamedTuple):
+    """Describes a search: the net or command, and its runs. A dataclass would load too slowly for a help."""
 
     net: Optional[Path]  # None: a command
     words: list[str]  # `net FILE`, or `run` with its options
