@@ -1,4 +1,4 @@
-"""Hints about a probable mistake in a `hinge run` command, printed before the command starts."""
+"""Hints about probable mistakes in a command line of `hinge run`, which are printed before the command starts."""
 
 from __future__ import annotations
 
@@ -26,13 +26,14 @@ OWN = re.compile(r"(server|client|localhost|127\..*|::1|10\.8\..*|fd08:.*)", re.
 
 
 def link_as_command(command: Sequence[str]) -> Optional[str]:
-    """Returns advice if the command begins with a link's words."""
+    """Returns advice if the command begins with a link's words; otherwise None."""
     link, rest = ("", []) if command and shutil.which(command[0]) else link_before(command)
     return f"{command[0]!r} isn't a command; write --link {shlex.quote(link)} -- {' '.join(rest) or 'COMMAND'}" if link else None
 
 
 def lacking(command: Sequence[str]) -> Optional[str]:
-    """Returns advice if the system lacks the command's program, or /etc/hosts, which is needed for the name `server`."""
+    """Returns advice if the system lacks the command's program, or if the program isn't executable, or if the command contains the
+    name `server` and there is no /etc/hosts; otherwise None."""
     names, ways = list[str](), list[str]()
     if command and os.path.isfile(command[0]) and not os.access(command[0], os.X_OK):
         kind = kind_of(command[0])
@@ -50,7 +51,8 @@ def lacking(command: Sequence[str]) -> Optional[str]:
 
 
 def runnable(name: str) -> str:
-    """Returns advice on a file of this folder, or a command line in quotes, in the place of a program."""
+    """Returns advice if the program's name is a file in the current folder, or a command line in quotes; otherwise an empty
+    text."""
     interpreter = {".py": "python3", ".sh": "sh"}.get(os.path.splitext(name)[1])
     if os.path.isfile(name):
         by_other = f"write {interpreter or 'chmod +x'} {name}"
@@ -59,7 +61,8 @@ def runnable(name: str) -> str:
 
 
 def asked_hosts(command: Sequence[str]) -> Iterator[tuple[str, str]]:
-    """Yields the hosts that a client requests, with their ports if given."""
+    """Yields the hosts that a client's arguments name, each with a port, or an empty text without a port. Yields nothing if the
+    command isn't a client in CLIENTS."""
     for place, word in enumerate(command[1:] if command and os.path.basename(command[0]) in PACKAGES else (), 1):
         url = URL.fullmatch(word)
         name = url[1].strip("[]") if url else word if HOST.fullmatch(word) and not word.replace(".", "", 1).isdigit() else ""
@@ -70,11 +73,12 @@ def asked_hosts(command: Sequence[str]) -> Iterator[tuple[str, str]]:
 
 
 def far_host(command: Sequence[str]) -> Optional[str]:
-    """Returns the host that a client tries to reach, if it is outside the run."""
+    """Returns the first host outside the run that a client tries to reach; None if there is none."""
     return next((name for name, _ in asked_hosts(command) if not OWN.fullmatch(name)), None)
 
 
 def hints(run: RunOptions) -> Iterator[str]:
+    """Yields the hints for a run; with --quiet, only hints about the client's own address."""
     if not (run.quiet or run.has_link()):
         yield "no link is given, so nothing is slowed or lost: --link '10Mbit/s 20ms loss 1%' or --preset lte gives one"
     far = None if run.quiet else far_host(run.command)

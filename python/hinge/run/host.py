@@ -1,4 +1,4 @@
-"""The host hinge-link: finding and starting it."""
+"""The host program hinge-link, which emulates the links: its path and its start."""
 
 from __future__ import annotations
 
@@ -25,9 +25,11 @@ PIECE = 1 << 16  # letters of a plan
 
 
 def program() -> str:
-    """Returns the path to hinge-link: the variable HINGE_LINK, the installed host beside this module, or the repository's host.
+    """Returns the path to hinge-link: the path in the variable HINGE_LINK, the program beside this module in an installation, or
+    the program in the repository.
 
-    In a repository, the host from tools/release/hosts precedes the released host. Missing: there is no hinge-link."""
+    In a repository, the program that tools/release/hosts built precedes the released program. Missing: there is no hinge-link, or
+    this isn't Linux."""
     if sys.platform != "linux":
         raise Missing("the host is a program of Linux")
     repository = HERE.parents[2]
@@ -40,7 +42,7 @@ def program() -> str:
 
 
 def plan_file(text: str) -> int:
-    """Returns a descriptor for reading the plan."""
+    """Returns a descriptor from which hinge-link can read the plan."""
     descriptor = os.memfd_create("plan")
     with os.fdopen(
         os.dup(descriptor), "w", encoding="utf-8", errors="surrogateescape"
@@ -52,7 +54,7 @@ def plan_file(text: str) -> int:
 
 
 class Link:
-    """A running hinge-link and its page of counts. The constructor starts the process."""
+    """Holds a running hinge-link, its page of counts and the control socket. The constructor starts the process."""
 
     def __init__(
         self,
@@ -65,7 +67,8 @@ class Link:
         control: Optional[Control] = None,
         lines: Optional[HostLines] = None,
     ) -> None:
-        """`lines` sends lines to the host during the run; a control socket comes with its lines."""
+        """Starts hinge-link with the arguments `words`; the program inherits `descriptors`. `lines` sends lines to the program
+        during the run; a control socket has its own object for this."""
         self.processes, self.page, self.control = processes, page, control
         lines = control.lines if control else lines
         plan_read = plan_file(plan + lines.line() if lines else plan)
@@ -82,10 +85,8 @@ class Link:
         self.process = forked(begin)
 
     def failed(self) -> Optional[int]:
-        """Waits until the link is ready. Otherwise returns the status of a host that ended early and printed the reason, or of a
-        signal.
-
-        After a signal, the link is gone."""
+        """Waits until the link is ready, and returns None. If hinge-link ends early, after it printed the reason, returns its
+        status. If a signal arrives, ends hinge-link and returns the signal's status."""
         came = self.processes.poll(
             lambda: self.page.head("state") != STARTING or self.process in self.processes.ended, math.inf, POLL
         )
@@ -95,6 +96,7 @@ class Link:
         return fault
 
     def end(self) -> None:
+        """Ends hinge-link and closes the control socket."""
         self.processes.end(self.process, 5)
         if self.control:
             self.control.end()

@@ -1,4 +1,4 @@
-"""Lines to the host hinge-link during a run, and the host's replies (control.h)."""
+"""Lines to the host program hinge-link during a run, and the program's replies (control.h)."""
 
 from __future__ import annotations
 
@@ -21,6 +21,8 @@ UNANSWERED = "the links took the line, and have not answered: it may be obeyed"
 
 
 class Answer(NamedTuple):
+    """Describes the host's reply to a line."""
+
     moment: int  # ns, of the links
     wrong: str  # why the line is refused, or nothing
     line: str  # the configuration line that a pipe has now, or nothing
@@ -46,8 +48,8 @@ class HostLines:
         return f"control {self.descriptor()}\n"
 
     def ask(self, text: str, until: Optional[float] = None, is_wanted: Callable[[], bool] = lambda: True) -> Answer:
-        """Sends a line and returns the host's reply. The host must read it before `until`, while the client stays. Wrong: the
-        line is too long."""
+        """Sends a line and returns the host's reply. If the host hasn't read the line at the moment `until` of the monotonic clock,
+        or before `is_wanted` returns false, the reply says so. Wrong: the line is too long."""
         if len(os.fsencode(text)) > LONGEST_LINE:
             raise Wrong("a line of more than 4,000 bytes")
         with self.lock:
@@ -57,6 +59,7 @@ class HostLines:
             return Answer(self.latest, wrong, line)
 
     def answer(self, text: str, until: float, is_wanted: Callable[[], bool]) -> str:
+        """Sends a line and returns the text of the host's reply, or a text of the same form if there is no reply."""
         try:
             self.own.send(os.fsencode(text))
             while not self.has_answered(LOOK):
@@ -70,7 +73,8 @@ class HostLines:
             return f"{self.latest} the links don't answer"
 
     def has_answered(self, patience: float) -> bool:
-        """Returns whether the latest reply has arrived; earlier replies are dropped."""
+        """Waits up to `patience` seconds; returns whether the reply to the latest line has arrived. Drops replies to earlier
+        lines."""
         while can_be_read(self.own, patience):
             if not self.owed:
                 return True
@@ -79,7 +83,7 @@ class HostLines:
         return False
 
     def is_taken_back(self) -> bool:
-        """Withdraws a line that the host hasn't read yet; returns whether that worked."""
+        """Withdraws the latest line, if the host hasn't read the line yet; returns whether that was so."""
         try:
             return bool(self.hosts.recv(2 * LONGEST_LINE, socket.MSG_DONTWAIT))
         except BlockingIOError:

@@ -1,4 +1,5 @@
-"""The rooms' first process: it starts the server, the link and the command, and reports the run."""
+"""The first process in the rooms, which are the network namespaces of the client and the server. The process starts the server, the
+link and the command, and reports the run."""
 
 from __future__ import annotations
 
@@ -35,6 +36,8 @@ LISTEN_POLL, QUIET_POLL = 0.01, 0.02  # s
 
 
 class Inside:
+    """Carries out a run, from the first process in the rooms."""
+
     def __init__(
         self,
         options: RunOptions,
@@ -44,7 +47,7 @@ class Inside:
         network: Optional[int],
         ports: Optional[Ports] = None,
     ) -> None:
-        """`network` is an existing network to join, if any."""
+        """Creates the rooms, or joins an existing network if `network` is its descriptor."""
         self.options = options
         self.order = order
         self.outside = outside
@@ -58,7 +61,7 @@ class Inside:
         self.started: dict[str, int] = {}  # processes, by hosts
 
     def start(self, host: str, words: Sequence[str]) -> int:
-        """Starts a host's command; returns its process."""
+        """Starts a command in a host's room and cgroup; returns its process."""
         is_server = host == HOSTS[1]
         room = self.rooms.server if is_server else self.rooms.client
         cgroup = None if is_simulated() else self.cgroups.of(host)
@@ -66,12 +69,13 @@ class Inside:
         return self.started[host]
 
     def look_at_waits(self) -> None:
+        """Reads how long the hosts' programs have waited for a processor, except in simulated time."""
         if not is_simulated():
             self.waits.look(self.cgroups.made, self.started)
 
     def started_server(self) -> tuple[Optional[int], Optional[int]]:
-        """Starts the server and waits until it listens, or until the time is over. Returns its process, and a signal that
-        arrived before."""
+        """Starts the server, if there is one, and waits until the server listens or ends, or the time for this is over. Returns the
+        server's process, and a signal that arrived first, if any. Prints a line if the server doesn't listen."""
         if not self.options.server:
             return None, None
         server = self.start(HOSTS[1], ["sh", "-c", self.options.server])
@@ -86,7 +90,8 @@ class Inside:
         return server, came
 
     def commanded(self, link: Link) -> tuple[int, bool]:
-        """Runs the command while the link is up. Returns the command's status, and whether an outside cause ended the command."""
+        """Runs the command while the link is up; without a command, waits for a signal or the link's end. Returns the command's
+        status, and whether the wait was interrupted before the command's own end."""
         watch = Watch(self.page) if self.options.watch else None
         words = self.options.command
         command = self.start(HOSTS[0], words) if words else link.process
@@ -108,7 +113,8 @@ class Inside:
         return SIGNALLED + (came or signal.SIGTERM), True
 
     def let_last_packets_pass(self, server: int) -> None:
-        """Lets a server end by itself: waits until the link has been quiet for a moment."""
+        """Waits until the server has ended or the link has been quiet for a moment, so that the server can receive the last
+        packets."""
         passages, since = -1, time.monotonic()
 
         def is_over() -> bool:
@@ -121,7 +127,7 @@ class Inside:
         self.processes.poll(is_over, LAST_PACKETS, QUIET_POLL)
 
     def ended_server(self, server: int, is_interrupted: bool) -> Ended:
-        """Ends the server and returns its ending; warns if the server crashed or had to be killed."""
+        """Ends the server and returns how it ended; prints a warning if the server failed or had to be killed."""
         self.processes.reap()
         if server in self.processes.ended and self.processes.ended[server]:
             say(f"the server ended with {name_of(self.processes.ended[server])} before the command did")
@@ -133,7 +139,7 @@ class Inside:
         return endings
 
     def doors(self) -> Enter:
-        """Returns a function that opens the rooms for `hinge exec`."""
+        """Returns a function that opens a host's room for `hinge exec`."""
         doors = Doors()
 
         def enter_host(host: str) -> HostRoom:
@@ -146,12 +152,14 @@ class Inside:
         return enter_host
 
     def run(self) -> int:
+        """Runs the programs and removes their cgroups; returns the run's status."""
         try:
             return self.whole_run()
         finally:
             self.cgroups.remove()
 
     def whole_run(self) -> int:
+        """Starts the server, the link and the command, ends them, and reports the run; returns the run's status."""
         if self.outside:  # before the server has mounts of its own
             self.rooms.lead_out(self.outside.join(self.rooms.server, [NAME], [self.rooms.ends.client6]))
         server, came = self.started_server()

@@ -1,8 +1,10 @@
-"""A link inside an existing network such as a container's: between its programs and its interface, for IPv4, with routing rules.
+"""A link inside an existing network, such as a container's, between the network's programs and the network's interface. The link
+applies to IPv4, through routing rules.
 
-Packets from its programs enter a tun interface, pass the link, leave through a second tun interface, and continue on their old
-route. Packets to its programs pass the other way. When the host ends, for any reason, its interfaces and their routes disappear,
-and the remaining rules send all packets the old way. The end of the run, or the next run there, removes these rules."""
+Packets from the programs enter a tun interface, pass the link, leave through a second tun interface, and continue on their old
+route. Packets to the programs pass the other way. When the host program hinge-link ends, for any reason, its interfaces and their
+routes disappear, and the remaining rules send all packets the old way. The end of the run, or the next run there, removes these
+rules."""
 
 from __future__ import annotations
 
@@ -41,8 +43,8 @@ NONE = "there is no docker and no podman on the path; write --netns PID, with a 
 
 
 def network_of(text: str) -> int:
-    """Returns the network of a process, or the network at a path. Wrong: there is none, or it is the system's. Missing: this needs
-    root."""
+    """Returns a descriptor of the network of a process, or of the network at a path. Wrong: there is no such network, or it is this
+    system's. Missing: only root may open the network."""
     try:
         network = held(f"/proc/{text}/ns/net" if text.isdecimal() else text)
         if os.path.samestat(os.fstat(network), os.stat("/proc/self/ns/net")):
@@ -55,10 +57,13 @@ def network_of(text: str) -> int:
 
 
 def read_setting(name: str) -> str:
+    """Returns a setting of the kernel for IPv4."""
     return read_system(SETTINGS + name).strip()
 
 
 class WayOut(NamedTuple):
+    """Describes the way out of a network: the default route's interface, and the source address of packets there."""
+
     interface: str
     address: str
 
@@ -75,18 +80,21 @@ def way_out() -> WayOut:
 
 
 def rule(kind: int, priority: int, table: int, comes_by: str = "") -> None:
+    """Adds or removes a routing rule, according to `kind`. The rule applies a table to packets that arrive on the interface
+    `comes_by`, or to all packets."""
     attributes = [(PRIORITY, struct.pack("I", priority)), (TABLE, struct.pack("I", table))]
     attributes[:0] = [(COMES_BY, comes_by.encode() + b"\0")] if comes_by else []
     ask_kernel(kind, struct.pack("BBBBBBBBI", socket.AF_INET, 0, 0, 0, 0, 0, 0, TO_TABLE, 0), attributes)
 
 
 def rules(by: str) -> list[tuple[int, str]]:
-    """Returns the routing tables in order, each with the interface on which packets arrive."""
+    """Returns the routing tables in the order of their rules, each with the interface on which packets arrive; an empty name means
+    any. `by` is the default route's interface."""
     return [(OF_DOWN, by), (LOCAL, UP), (MAIN, DOWN), (LOCAL, ""), (OF_UP, "lo")]
 
 
 def without_rules(by: str) -> None:
-    """Removes all rules of a run, and makes the rule for local addresses the first again."""
+    """Removes all rules of a run, and makes the rule for local addresses the first again; `by` is the default route's interface."""
     with suppress(OSError):
         rule(DELRULE, 0, LOCAL)
     rule(NEWRULE, 0, LOCAL)
@@ -101,7 +109,8 @@ def without_rules(by: str) -> None:
 
 
 class Joined(Rooms):
-    """Moves the first process into the existing network, which contains the client and the server. Create it there."""
+    """Holds the single room of a run in an existing network, which contains the client and the server. Create this object in the
+    first process, which then enters the network."""
 
     def __init__(self, network: int, mtu: int, own_users: bool) -> None:
         see_own_processes()
@@ -131,10 +140,12 @@ class Joined(Rooms):
         rule(DELRULE, 0, LOCAL)
 
     def dropped(self) -> list[int]:
+        """Returns how many packets the system dropped before the link, for each way (one direction of the link)."""
         enter(self.client)
         return [dropped(UP), dropped(DOWN)]
 
     def end(self) -> None:
+        """Removes the run's rules, and restores the network's settings."""
         without_rules(self.out.interface)
         for name, value in self.before.items():
             try_to_write(SETTINGS + name, value)
@@ -142,12 +153,13 @@ class Joined(Rooms):
 
 
 def said(engine: str, *words: str) -> Answer:
+    """Runs a container engine's command; returns its answer, whatever the status."""
     return asked([engine, *words], statuses=range(256))
 
 
 def process_of(name: str) -> str:
-    """Returns the first process of a container. Wrong: no running container has this name, or several have this image. Missing: no
-    engine answers."""
+    """Returns the number of a container's first process; `name` is the name of the container or of its image. Wrong: no running
+    container has this name, or several containers have this image. Missing: no container engine answers."""
     engines = [engine for engine in ENGINES if shutil.which(engine)]
     others = list[str]()
     faults = list[str]()

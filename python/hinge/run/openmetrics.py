@@ -1,4 +1,4 @@
-"""The counts of running links in OpenMetrics text format, for a monitor."""
+"""The counts of running links in the text format OpenMetrics, for a monitor such as Prometheus."""
 
 from __future__ import annotations
 
@@ -11,7 +11,7 @@ QUANTILES = {"p50": "0.5", "p99": "0.99", "p99.9": "0.999", "max": "1"}
 
 
 class Family(NamedTuple):
-    """A metric, and its key in a way's record."""
+    """Describes a metric, and the key of its value in the record of a way (one direction of a link)."""
 
     name: str
     kind: str
@@ -51,7 +51,7 @@ FAMILIES = [
 
 
 def labels(**values: object) -> str:
-    """Formats labels. Returns them unquoted, since hosts, numbers and quantiles contain no special characters."""
+    """Returns the text of labels. The values need no escapes, since hosts, numbers and quantiles contain no special characters."""
     return ",".join(f'{name.rstrip("_")}="{value}"' for name, value in values.items())
 
 
@@ -63,6 +63,7 @@ def ways_of(status: dict[str, Any]) -> list[tuple[str, dict[str, Any]]]:
 
 
 def samples(family: Family, label: str, way: dict[str, Any]) -> Iterator[str]:
+    """Yields the lines with a metric's values for a way."""
     if family.kind == "summary":
         for part, quantile in QUANTILES.items():
             yield f'hinge_{family.name}{{{label},quantile="{quantile}"}} {way[f"{family.key}_{part}_ms"] / MS:.9g}'
@@ -72,6 +73,7 @@ def samples(family: Family, label: str, way: dict[str, Any]) -> Iterator[str]:
 
 
 def head(name: str, kind: str, unit: str, text: str) -> Iterator[str]:
+    """Yields the lines that describe a metric."""
     yield f"# TYPE hinge_{name} {kind}"
     if unit:
         yield f"# UNIT hinge_{name} {unit}"
@@ -79,7 +81,7 @@ def head(name: str, kind: str, unit: str, text: str) -> Iterator[str]:
 
 
 def openmetrics(status: dict[str, Any]) -> str:
-    """Returns a `hinge status` record in OpenMetrics format."""
+    """Returns the record of `hinge status` in OpenMetrics format."""
     lines, ways = list[str](), ways_of(status)
     for family in FAMILIES:
         lines += head(family.name, family.kind, family.unit, family.help)

@@ -1,4 +1,5 @@
-"""The order for a run: the link's plan, its outputs and its limits, according to the command line; and the report at the end."""
+"""The order for a run, from the command line: the plan for the link, the outputs and the limits. Also the report at the run's
+end."""
 
 from __future__ import annotations
 
@@ -23,13 +24,15 @@ if TYPE_CHECKING:
 
 
 class CountedPage(Protocol):
-    """A source for a link's counts, during the run or at its end."""
+    """Describes an object that returns a link's counts, during the run or at its end."""
 
     def read(self) -> Counts:
         ...
 
 
 class Order(NamedTuple):
+    """Describes a run according to the command line."""
+
     options: LiveOptions
     plan: str
     limit: Optional[float]  # ms
@@ -41,7 +44,7 @@ class Order(NamedTuple):
     made: Plan
 
     def control(self, page: Page, status: Callable[[], Record], enter: Optional[Enter] = None) -> Optional[Control]:
-        """Opens the socket from --control, if any, and returns it."""
+        """Opens the socket from --control and returns the object that answers there; None without the option."""
         if not self.options.control:
             return None
         from hinge.run.control import Control  # which other runs don't load, as they start sooner
@@ -51,7 +54,7 @@ class Order(NamedTuple):
 
 
 def order_of(options: LiveOptions, longest: int, mask: Mask, server_wait: str = "0", server_end: str = "0") -> Order:
-    """Returns the order for packets of at most `longest` bytes."""
+    """Returns the order for a run, with packets of at most `longest` bytes."""
     plan = plan_of(options, longest)
     seed = drawn_seed(options.seed)
     transcript = os.path.abspath(options.transcript) if options.transcript else None
@@ -63,6 +66,7 @@ def order_of(options: LiveOptions, longest: int, mask: Mask, server_wait: str = 
 
 
 def note_realtime(page: Page) -> None:
+    """Prints a line if the system refused the priority for --realtime."""
     if page.head("realtime") == NOT_ALLOWED:
         say("--realtime: the system doesn't allow it (as root, or with `ulimit -r 10`)")
 
@@ -75,7 +79,8 @@ def report(
     server: Optional[Ended] = None,
     waits: Optional[Waits] = None,
 ) -> int:
-    """Reports the run, on standard error and in the --json file; returns the status, or VOID for a void run."""
+    """Reports the run, on standard error and in the --json file; returns the command's status, or VOID for a void run. `drops` are
+    the packets that the system dropped before each way (one direction of the link)."""
     options, counts = order.options, page.read()
     of_programs = waits.over if waits else lambda limit: []
     awaited = order.made.awaited()
@@ -93,8 +98,8 @@ def report(
 def told_status(
     options: RecordOptions, lines: Iterable[str], parts: int, record: dict[str, Any], status: int, tell: Callable[[str], None]
 ) -> int:
-    """Tells how a run went, also in the --json file; returns the status, which is VOID for a void run, or a failure if the run succeeded
-    but the file can't be written."""
+    """Prints the summary's lines through `tell`, and writes the record into the --json file. Returns VOID for a void run, otherwise
+    the status, or FILES if the status is 0 but the file can't be written."""
     of_transcript = told(options.transcript, parts) if options.transcript else ()
     for text in [*lines, *of_transcript, *(f"void: {fault}" for fault in record["void"])]:
         tell(text)

@@ -21,7 +21,7 @@ from hinge.run.system import Missing, die_with_parent, enter, try_to_write, writ
 
 
 class Side(NamedTuple):
-    """Addresses on the outer side, where slirp4netns chooses an address within a network."""
+    """Holds the addresses on the outer side of the host's room, all within one network."""
 
     net: str
     own: str
@@ -30,7 +30,7 @@ class Side(NamedTuple):
 
 
 def side(front: str) -> Side:
-    """Returns the addresses for a /24 network, from its first three numbers."""
+    """Returns the addresses in the /24 network whose first three numbers are `front`."""
     return Side(f"{front}.0/24", f"{front}.100", f"{front}.2", f"{front}.3")
 
 
@@ -42,10 +42,11 @@ PATIENCE = 20  # s
 
 
 def words_for(process: str, own_users: bool, ipv6: bool, loopback: bool, outer: Side) -> list[str]:
-    """Returns the command that connects a process's network to this one: slirp4netns if installed, otherwise pasta, which refuses
-    root.
+    """Returns the command that connects a process's network to this process's network: slirp4netns if installed, otherwise pasta,
+    which refuses root.
 
-    Unless told otherwise, both map the gateway to the system's loopback, and servers there would see local callers."""
+    By default, both programs map the gateway to the system's loopback, whose servers would then see local callers. This happens
+    only if `loopback` is true."""
     network, users = f"/proc/{process}/ns/net", f"/proc/{process}/ns/user"
     if shutil.which("slirp4netns"):
         more = [
@@ -65,10 +66,11 @@ def words_for(process: str, own_users: bool, ipv6: bool, loopback: bool, outer: 
 
 
 class Outside:
-    """Starts before this process leaves the system's network, and waits for the name of the room to connect."""
+    """Connects a host's room to the outside network, by a child process that waits for the room. Create this object before this
+    process leaves the system's network. Missing: there is neither slirp4netns nor a usable pasta."""
 
     def __init__(self, loopback: bool, network: str) -> None:
-        """`network` is the hosts' network, with which the outer side's doesn't overlap."""
+        """Starts the child process, for an outer network that doesn't overlap with the hosts' network, `network`."""
         overlaps = ipaddress.IPv4Network(FIRST.net).overlaps(ipaddress.IPv4Network(network))
         self.loopback = loopback
         self.outer = SECOND if overlaps else FIRST
@@ -83,8 +85,9 @@ class Outside:
         os.close(read_end)
 
     def join_what_is_told(self, read_end: int) -> int:
-        """Reads `PROCESS OWN`, of the first process of the rooms, and `!` of that process once it is in the host's room, whichever comes
-        first, and becomes the program that connects the room; returns the status on failure."""
+        """Waits for two messages, in any order: `PROCESS OWN` about the first process in the rooms, and `!` from that process once
+        it is in the host's room. Then becomes the program that connects the room. Returns 0 if the messages end early, or a status
+        if the program doesn't start."""
         die_with_parent()
         os.close(self.write_end)
         text = b""
@@ -101,10 +104,11 @@ class Outside:
         return become(words)
 
     def tell(self, first: int, own_users: bool) -> None:
+        """Sends the child process the number of the rooms' first process, and whether that process is in a new user namespace."""
         os.write(self.write_end, f"{first} {own_users}".encode())
 
     def joined(self) -> bool:
-        """Returns whether the current room has a default route."""
+        """Returns whether the current room has a default route to the outside."""
         try:
             socket.if_nametoindex(INTERFACE)
             rows = read_system("/proc/thread-self/net/route").splitlines()
@@ -113,9 +117,11 @@ class Outside:
             return False
 
     def join(self, network: int, interfaces: Sequence[str], others: Sequence[str]) -> bool:
-        """Waits for the interface, then forwards packets between it and `interfaces`. Runs in the first process.
+        """Waits for the outside interface, then forwards packets between this interface and `interfaces`. Call this in the first
+        process.
 
-        `others` are the IPv6 addresses behind these interfaces. Returns whether IPv6 works too. Missing: there is no way out."""
+        `others` are the IPv6 addresses behind `interfaces`. Returns whether IPv6 works too. Missing: no outside interface
+        appears."""
         enter(network)
         for name in ("accept_dad", "accept_ra"):
             # else it asks for a second whether its address is another's
@@ -134,8 +140,8 @@ class Outside:
         return self.ipv6 and self.hands_on_ipv6(others)
 
     def hands_on_ipv6(self, others: Sequence[str]) -> bool:
-        """Turns on IPv6 forwarding if the system permits; returns whether that worked. pasta has already set the address and
-        the route."""
+        """Turns on IPv6 forwarding for the addresses `others`; returns false if the system refuses. Adds this side's address and
+        route, unless pasta has already added them."""
         try:
             write("/proc/sys/net/ipv6/conf/all/forwarding", "1")
         except OSError:

@@ -1,4 +1,5 @@
-"""The page of counts: memory shared with the host, which writes it during the run. Reading costs the host no time."""
+"""The page of counts: memory that this process shares with the host program hinge-link, which counts packets there during the run.
+Reading the page costs the host no time."""
 
 from __future__ import annotations
 
@@ -22,13 +23,14 @@ HAS_IT, NOT_ALLOWED = 1, 2  # of `realtime`
 
 
 class Times:
-    """A histogram of times, counting packets or ns, and the longest time."""
+    """Holds a histogram of times, whose bins count packets or ns, and the longest time in ns."""
 
     def __init__(self, bins: tuple[int, ...], most: int) -> None:
         self.bins, self.most = bins, most
 
     def within(self, share: float) -> float:
-        """Returns the ms within which this share of the packets or the time lies: the bin's upper end, at most the longest time."""
+        """Returns the ms that this share of the packets or of the time doesn't exceed: the upper end of a bin, but at most the
+        longest time."""
         total, below = sum(self.bins), 0
         for index, count in enumerate(self.bins if total else ()):
             below += count
@@ -39,10 +41,11 @@ class Times:
 
 
 class Way:
-    """The counts of a direction."""
+    """Holds the counts of a way (one direction of a link)."""
 
     def __init__(self, numbers: tuple[int, ...], moment: int) -> None:
-        """`moment` is on the links' clock. Uncounted time counts as time without late packets."""
+        """Reads a way's part of the page. `moment` is the ns since the start of the links' clock; all ns that the host didn't count
+        are time without late packets."""
         self.counts = dict(zip(COUNTS, numbers))
         late, unread, *times = (numbers[at : at + BINS] for at in range(len(COUNTS), WAY, BINS))
         self.late, self.unread = Times(late, self["late_most"]), Times(unread, self["unread_most"])
@@ -56,14 +59,15 @@ class Way:
 
     @property
     def underway(self) -> int:
+        """Returns how many packets are on the way now."""
         return self["came"] - sum(self[name] for name in ("sent", "refused", "lost", "full", "no_target", "discarded"))
 
 
 class Counts:
-    """The page's contents at a moment."""
+    """Holds the page's contents at a moment."""
 
     def __init__(self, numbers: tuple[int, ...], slept: int = 0) -> None:
-        """`slept` is for how many ns the machine was suspended since the page was made."""
+        """Reads the page's numbers. The machine was suspended for `slept` ns since the page's creation."""
         self.slept = slept
         self.head = dict(zip(HEAD, numbers))
         end = len(numbers) - (len(numbers) - len(HEAD)) % WAY
@@ -74,22 +78,26 @@ class Counts:
         return self.head[name]
 
     def has_met(self, rule: int) -> bool:
-        """Returns whether a packet matched a rule, by the rule's place among the plan's lines. Of those behind the last bit that
-        isn't known."""
+        """Returns whether a packet matched a rule; `rule` is the rule's place among the plan's rules. The host keeps no bit for
+        very late rules, which count as matched."""
         return rule >= 64 * len(self.met) or bool(self.met[rule // 64] >> rule % 64 & 1)
 
 
 def asleep() -> int:
-    """Returns for how many ns this machine was suspended since its start: the minimum difference between two clocks over a few
-    readings. The clock that stands still meanwhile is read first, so that a pause between both only adds to a difference."""
+    """Returns for how many ns this machine was suspended since its start: the least difference between two clocks in a few
+    readings. The clock that stands still during a suspension is read first, so that a pause between the two calls only adds to a
+    difference."""
     return min(-time.clock_gettime_ns(time.CLOCK_MONOTONIC) + time.clock_gettime_ns(time.CLOCK_BOOTTIME) for _ in range(LOOKS))
 
 
 def size_of_page(ways: int) -> int:
+    """Returns the bytes of a page with the counts of some ways."""
     return 8 * (len(HEAD) + ways * WAY + MET)
 
 
 class Page:
+    """Holds the memory of the page."""
+
     def __init__(self, ways: int = 2) -> None:
         self.asleep = asleep()
         self.size = size_of_page(ways)
@@ -98,8 +106,9 @@ class Page:
         self.memory = mmap.mmap(self.descriptor, self.size)
 
     def read(self) -> Counts:
+        """Returns all counts."""
         return Counts(struct.unpack(f"{self.size // 8}Q", self.memory[: self.size]), asleep() - self.asleep)
 
     def head(self, name: str) -> int:
-        """Returns a count that is of no way, without a look at the others."""
+        """Returns a number from the page's head, without reading the ways' counts."""
         return int(struct.unpack_from("Q", self.memory, 8 * HEAD.index(name))[0])

@@ -1,8 +1,8 @@
-"""The plan for the host hinge-link, as text with a line for each item, whose forms hosts/link/plan.c lists. This module reads
-files, and needs no other system call.
+"""The plan: the text that tells the program hinge-link what to emulate, with a line for each item. hosts/link/plan.c lists the
+lines' forms. This module reads files, and makes no other system call.
 
-WAY 0 is up, from the client through pipe 1, and WAY 1 is down, from the server through pipe 2. A second link uses ways 2 and 3 and
-pipes 3 and 4, and so on. The words for a link always call its pipes 1 and 2."""
+A way is one direction of a link. Way 0 is up, from the client through pipe 1, and way 1 is down, from the server through pipe 2. A
+second link uses ways 2 and 3 and pipes 3 and 4, and so on. The words for a link always call its pipes 1 and 2."""
 
 from __future__ import annotations
 
@@ -63,10 +63,13 @@ def uncollected() -> Iterator[None]:
 
 
 def pipes_of_queue(line: str) -> list[str]:
+    """Returns the number of the pipe that a queue's line names; an empty list for other lines."""
     return re.findall(r"\bpipe (\d+)\b", line) if re.match("(ipfw )?queue ", line) else []
 
 
 class Plan:
+    """Collects what hinge-link is to emulate, and writes the plan's text."""
+
     def __init__(self, longest: int = MAHIMAHI_BYTES, links: int = 1) -> None:
         """Creates a plan for `links` links, with packets of at most `longest` bytes."""
         self.ways = 2 * links
@@ -95,34 +98,36 @@ class Plan:
         self.has_moments = self.has_bins = False  # of mahimahi's traces, and whether they are counted over bins
 
     def words(self, way: int, link: LinkWords) -> None:
-        """Reads the properties in a way's first words that its line can't express."""
+        """Adds the properties in a way's words that the pipe's configuration line can't express, such as jitter; notes a loss."""
         self.lose(way, link)
         self.extra(way, link.extra)
 
     def lose(self, way: int, link: LinkWords) -> None:
-        """Notes a loss in the words of a way. Wrong: rules send packets of the way to a queue with a line without `plr`."""
+        """Notes the loss rate in a way's words, if any. Wrong: rules send packets of the way to a queue whose line lacks `plr`."""
         loss = link.options.get("plr", "0")
         if float(loss):
             self.refuse_unlost(loss, self.mapped.get(way, set()) & self.silent)
             self.losses[way] = loss
 
     def begun(self, way: int) -> dict[str, str]:
-        """Returns the options of a way's pipe at the beginning; empty for a wrong line, which is refused separately."""
+        """Returns the options of a way's pipe at the run's beginning; empty if the pipe's line is wrong, which another check
+        reports."""
         try:
             return read_once(self.current.get(Target("pipe", way + 1), "").partition(" config")[2], Place.DUMMYNET).options
         except WordError:
             return {}
 
     def refuse_left_out(self, way: int, words: LinkWords, event: NewWords) -> None:
-        """Wrong: a change leaves out an option that the link has at its beginning."""
+        """Checks that a change names every option that the link has at the run's beginning. Wrong: the change leaves out an
+        option."""
         is_alike = len({str(self.begun(way)) for way in event.ways}) == 1
         side = event.side or ("" if is_alike else ("up", "down")[event.ways.index(way)])
         if why := refusal_of_change(self.begun(way), words.options, " ".join(filter(None, (event.ends, side, "{}")))):
             raise Wrong(f"'{event.words}': {why}")
 
     def take(self, line: str) -> None:
-        """Notes a queue's line without `plr`, or a pipe's with a mask. Wrong: a way whose words lose packets sends some to the queue, or
-        an outage holds the pipe."""
+        """Notes a queue's line without `plr`, or a pipe's line with a mask, and counts each pipe's lines of queues. Wrong: a way
+        whose words contain a loss sends packets to the queue, or an outage delays the pipe's packets."""
         target = target_of(line)
         self.queues.update(pipes_of_queue(line))
         if target.kind == "queue" and configures(line) and "plr" not in line.split():
@@ -136,19 +141,22 @@ class Plan:
 
     @staticmethod
     def refuse_unlost(loss: str, queues: set[Target]) -> None:
+        """Checks that a way's loss rate misses no packet. Wrong: rules send packets of the way to `queues`, whose lines lack
+        `plr`."""
         if float(loss) and queues:
             raise Wrong(
                 f"the link's loss isn't that of a queue, to which a rule sends packets: write `plr {loss}`, or `plr 0`, in the queue's line"
             )
 
     def extra(self, way: int, extra: Extra) -> None:
-        """Adds a way's jitter and duplicates."""
+        """Adds a way's jitter, duplicates and flipped bits."""
         if extra != Extra():
             self.extras[way] = extra, self.second_pipes(range(extra.pipes))
             self.copied |= {way} if extra.duplicate else set()
 
     def second_pipes(self, delays: Sequence[int]) -> list[int]:
-        """Returns pipes for second passes with these delays, using the highest free numbers. Wrong: the numbers are in use."""
+        """Configures a pipe for each delay in ms, and returns the pipes' numbers, which are the highest free ones. A packet enters
+        such a pipe after the way's own pipe, in a second pass. Wrong: another line uses such a number."""
         pipes = list(range(self.last_free - len(delays) + 1, self.last_free + 1))
         others = {target.number for target in self.current if target.kind == "pipe"}
         if pipes and (pipes[0] <= self.ways or others & set(pipes)):
@@ -159,18 +167,19 @@ class Plan:
         return pipes
 
     def noted(self, option: str, lines: Iterable[str]) -> Iterator[str]:
-        """Remarks the lines from an option, or from its file, as they are read."""
+        """Yields the lines of an option or of its file, and notes each line as a remark."""
         for number, line in enumerate(lines, 1):
             self.note(option, number, line)
             yield line
 
     def note(self, option: str, number: int, line: str) -> None:
+        """Notes a line of an option as a remark for `hinge look`, unless the plan keeps no remarks or the line is empty."""
         text = bare(line) if self.is_noted else ""
         self.asked.write((f"remark asked,{option},{number},{text}\n" if text else ""))
 
     def faults(self, path: str, names: Iterable[str], is_net: bool = False) -> None:
-        """Adds the faults in a file, which then decide all losses. `names` are the names of the ways. Wrong: a line is no fault
-        for a way."""
+        """Adds the faults in a file, which then decide all losses. `names` lists the ways' names in order; `is_net` tells that the
+        ways are a net's. Wrong: a line isn't a fault, or names another link, or an act that belongs elsewhere."""
         from hinge.fault_lines import faults_in
 
         by_names: dict[str, list[Fault]] = {name: [] for name in names}
@@ -188,7 +197,8 @@ class Plan:
             self.faults_of(way, sorted(of_way))
 
     def act(self, path: str, act: Act, names: Sequence[str]) -> None:
-        """Adds a cut or a hold of a way. ValueError: the act concerns a host, or the file is a net's with separate `at` lines."""
+        """Adds a cut or a hold of a way; the first of `names` is the way up. ValueError: the act isn't a cut or a hold of a way in
+        `names`, which is empty for a net, whose file has lines `at` for acts."""
         from hinge.events.link_words import link_event
         from hinge.fault_lines import CUT, HOLD, spelled as spelled_time
 
@@ -200,8 +210,8 @@ class Plan:
         self.happen(event, round(act.moment * SECOND), str(act))
 
     def faults_of(self, way: int, faults: Sequence[Fault]) -> None:
-        """Adds a way's faults. If a packet is late, all others get a second pass without a delay, so that each passes as many pipes.
-        Wrong: a model decides about the losses of a way with faults."""
+        """Adds a way's faults of packets. If a packet is late, all other packets make a second pass without a delay, so that each
+        packet passes the same number of pipes. Wrong: a loss model already decides about the way's packets."""
         from hinge.fault_lines import IS_LATE, IS_LOST, IS_TWICE
 
         model = self.decided.get(way, "list")
@@ -223,7 +233,7 @@ class Plan:
         self.rest += [f"fault {way} 2 {packet} {pipe_of[delay]}" for packet, delay in late.items()]
 
     def happen(self, event: Event, moment: int, text: str) -> None:
-        """Adds an event of a run."""
+        """Adds an event of a run at a moment in ns; `text` names the event in the run's verdict."""
         from hinge.events.kinds import Moment, TimedEvent, kept
 
         self.changes.add(self.happenings(event, moment, self.changes))
@@ -231,10 +241,12 @@ class Plan:
         self.moments.append((moment, text))
 
     def awaited(self) -> Awaited:
+        """Returns the requests in the run's words, which the run's verdict compares with the counts."""
         queues = [f"queue {one.number}" for one in self.unruled()]
         return Awaited(self.moments, self.chosen, self.idle(), self.rules, queues)
 
     def idle(self) -> list[tuple[TimedEvent, TimedEvent]]:
+        """Returns each event that changes nothing, with the other event that is the cause."""
         if not self.events:
             return []
         from hinge.events.idle import idle_events
@@ -247,6 +259,7 @@ class Plan:
         return [one for one in self.current if one.kind == "queue" and one not in targets]
 
     def extra_lines(self, seed: int) -> list[str]:
+        """Returns the plan's lines for jitter, duplicates and flipped bits."""
         items = []
         for way, (extra, pipes) in self.extras.items():
             items += [f"jitter {way} {pipes[0]} {max(1, extra.pipes)} {seed}"] if pipes else []
@@ -254,6 +267,7 @@ class Plan:
         return items
 
     def link(self, line: str, link: int = 0) -> None:
+        """Adds a configuration line of a link, which is counted from 0; skips an empty line or a comment."""
         line = of_link(bare(line), link)
         if line:
             self.configured.append(line)
@@ -262,7 +276,7 @@ class Plan:
             self.take(line)
 
     def way_of(self, target: Target) -> Optional[int]:
-        """Returns the way through a pipe, or through a queue's pipe."""
+        """Returns the way whose packets enter a pipe, or a queue's pipe; None for a pipe that belongs to no way."""
         number = target.number
         if target.kind == "queue":
             words = self.current.get(target, "").split()
@@ -271,7 +285,9 @@ class Plan:
         return number - 1 if 1 <= number <= self.ways else None
 
     def rule(self, text: str, link: int = 0, said: str = "") -> None:
-        """Adds a rule, which is of a line with the words `said`. Wrong: the text is no rule, or its target isn't configured."""
+        """Adds a rule that sends packets to a pipe or queue; `said` names the rule in the verdict. Wrong: the text isn't a rule,
+        repeats a rule, or doesn't say the way if the target leaves that open; or the target isn't configured, or the queue loses
+        nothing."""
         from hinge.run.rules import Rule
 
         rule = Rule(text)
@@ -290,6 +306,7 @@ class Plan:
         self.refuse_unlost(self.losses.get(way, "0"), {rule.target} & self.silent)
 
     def loss(self, text: str, link: int = 0) -> None:
+        """Adds a loss model for packets of a link, which is counted from 0. Wrong: another model decides about the same packets."""
         from hinge.loss import loss_lines, model_name
 
         lines = loss_lines(text, link)
@@ -301,12 +318,14 @@ class Plan:
         self.decided |= dict.fromkeys(lines, model_name(text))
 
     def lossy(self, line: str) -> str:
-        """Returns the line in the form that lets random words decide losses, unless a model decides."""
+        """Returns a configuration line, with `plr 0.5` if a loss model or faults decide about the way's packets: these give each
+        packet the least or the greatest random word, of which only the least then means a loss."""
         is_decided = self.decided and configures(line) and self.way_of(target_of(line)) in self.decided
         return f"{line} plr 0.5" if is_decided and "plr" not in line.split() else line
 
     def refuse_unheld(self, pipe: int, hint: str) -> None:
-        """Wrong: an outage would hold packets that rules send elsewhere than to the way's pipe, or flows that a mask parts."""
+        """Checks that an outage of a pipe can delay all packets of its way; `hint` ends the message. Wrong: rules send packets to
+        another pipe or queue, or a mask parts the pipe's packets."""
         others = [
             f"rules send packets to {one.kind} {one.number}" for one in self.mapped.get(pipe - 1, ()) if one != Target("pipe", pipe)
         ]
@@ -316,7 +335,8 @@ class Plan:
             raise Wrong(f"{others[0]}, which an outage doesn't hold: {hint}")
 
     def happenings(self, event: Event, moment: int, changes: Changes) -> list[Happening]:
-        """Returns the links' actions for an event; `changes` numbers its cuts. Wrong: the links can't carry it out."""
+        """Returns what the links do for an event at a moment in ns; `changes` numbers the event's cuts. Wrong: a pipe isn't
+        configured, the event leaves out an option of the link, or an outage can't delay all packets."""
         from hinge.events.kinds import Heal, NewLine, NewWords
 
         if isinstance(event, NewLine):
@@ -344,13 +364,15 @@ class Plan:
         return new
 
     def read(self, words: str, moment: int) -> list[Happening]:
-        """Returns the actions of the links for the words of `hinge change`."""
+        """Returns what the links do for the words of `hinge change` at a moment in ns."""
         from hinge.events.link_words import link_event
 
         return self.happenings(link_event(words, f"'{words}'"), moment, self.changes)
 
     @uncollected()
     def timeline(self, path: str) -> None:
+        """Adds the changes in a file of lines such as `5s 1Mbit/s 20ms`. Wrong: the file contains no change, a wrong line, or two
+        configurations of a pipe at the same moment; or `path` consists of such lines."""
         from hinge.checks.lines import refuse_wrong
         from hinge.events.link_words import link_event
 
@@ -375,7 +397,8 @@ class Plan:
             refuse_wrong([*plain], [*plain.values()], path)
 
     def as_file(self, text: str) -> str:
-        """Returns the command that writes lines into a file, used in place of the file's name. Wrong: the file can't contain them."""
+        """Returns a shell command that writes the lines in a text into a file, as advice to a user who wrote these lines in place
+        of the file's name. Commas or semicolons part the lines. Wrong: a line isn't a change."""
         from hinge.events.link_words import link_event
 
         parts = [line_meant(bare(part), CHANGES) or bare(part) for part in re.split("[,;]", text)]
@@ -392,10 +415,10 @@ class Plan:
 
     @uncollected()
     def trace(self, way: int, path: str, bin_ns: Optional[int], lasting: int) -> None:
-        """Makes a way's bandwidth follow a file. Wrong: the pipe isn't configured.
+        """Makes a way's bandwidth follow a file. Wrong: the way's pipe isn't configured, or the file isn't a trace.
 
-        mahimahi's moments apply separately if there is no bin length and the pipe is a single queue. Otherwise they are counted in
-        bins, which repeat for `lasting` ns."""
+        If `bin_ns` is None and the pipe is a single queue, the host obeys each of mahimahi's moments. Otherwise the number of
+        moments in each bin becomes a bandwidth, and the bins repeat for `lasting` ns."""
         line = self.current.get(Target("pipe", way + 1))
         if line is None:
             raise Wrong(f"{path}: pipe {way + 1} isn't configured")
@@ -413,6 +436,7 @@ class Plan:
             self.changes.follow(Bandwidths(way + 1, line, result.rates))
 
     def bins(self, line: str, path: str, moments: Moments, bin_ns: int, lasting: int) -> None:
+        """Adds changes of bandwidth to a pipe's line, one for each bin of mahimahi's moments. Wrong: there are too many changes."""
         self.has_bins = True
         rates = counted(path, moments, bin_ns, self.longest)
         period = moments[-1] * MS
@@ -424,10 +448,11 @@ class Plan:
             self.changes.lines += [Change(base + moment, with_bandwidth(line, rate)) for moment, rate in rates]
 
     def change_line(self, moment: int, line: str) -> str:
+        """Returns the plan's line for a change at a moment in ns."""
         return f"outage {moment} {line.partition(' ')[2]}" if line.startswith("outage ") else f"at {moment} {self.lossy(line)}"
 
     def lines(self, seed: int) -> Iterator[str]:
-        """Yields the lines after the remarks, since traces make many."""
+        """Yields the plan's lines after the remarks, singly, since a trace makes many."""
         yield from self.rest
         yield from self.extra_lines(seed)
         of_bases = ("", self.changes), ("main ", self.behind_main)
@@ -439,6 +464,7 @@ class Plan:
     def text(
         self, seed: int, transcript: Optional[str] = None, realtime: bool = False, most: int = MOST, in_simulated_time: bool = False
     ) -> str:
+        """Returns the whole plan. `transcript` names the file of the links' history, whose parts have at most `most` bytes."""
         front = [f"transcript {most} {transcript}"] if transcript else []
         front += [f"seed {way} {seed}" for way in range(self.ways)]
         text = "".join(f"{line}\n" for line in front) + self.asked.getvalue()

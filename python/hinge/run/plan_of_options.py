@@ -1,4 +1,4 @@
-"""The plan that the options of `hinge run` and `hinge udp` make."""
+"""The conversion of the options of `hinge run` and `hinge udp` into a plan: the text that tells hinge-link what to emulate."""
 
 from __future__ import annotations
 
@@ -26,7 +26,8 @@ def value(line: str, option: str) -> str:
 
 
 def idle_queues(plan: Plan) -> Iterator[tuple[int, str]]:
-    """Yields the ways with a queue in which no packet ever waits, with the reason."""
+    """Yields each way (one direction of a link) whose pipe has a queue's length but never a bandwidth, so that no packet waits in
+    the queue, and the message about this."""
     for way in range(plan.ways):
         target = Target("pipe", way + 1)
         line = plan.current.get(Target("pipe", way + 1), "")
@@ -40,8 +41,8 @@ def idle_queues(plan: Plan) -> Iterator[tuple[int, str]]:
 
 
 def idle_losses(plan: Plan) -> Iterator[tuple[int, str]]:
-    """Yields the ways with a loss rate next to a model or faults, which decide each packet's loss, and the reason why the rate has
-    no effect."""
+    """Yields each way with a loss rate that has no effect, because a loss model or faults decide about each packet, and the message
+    about this."""
     for way, model in plan.decided.items():
         rate = value(plan.current.get(Target("pipe", way + 1), ""), "plr")
         if rate and float(rate) < 1:
@@ -50,14 +51,15 @@ def idle_losses(plan: Plan) -> Iterator[tuple[int, str]]:
 
 
 def refuse_idle(plan: Plan, places: Sequence[str], is_open: bool) -> None:
-    """Wrong: words for a way have no effect, and the run would silently miss its user's intention; `places` names the place of each
-    way's words. If the run is open to `hinge change`, it may still be slowed."""
+    """Checks that the words for each way have an effect. `places` names the place of each way's words, for the message. Wrong: a
+    loss rate or a queue has no effect. If `hinge change` can reach the run (`is_open`), a queue may still get a bandwidth."""
     for way, why in [*idle_losses(plan), *([] if is_open else idle_queues(plan))]:
         raise Wrong(f"{places[way]}: {why}")
 
 
 def refuse_idle_options(options: LiveOptions, plan: Plan, draws: bool) -> None:
-    """Wrong: other options leave an option of the run without effect."""
+    """Checks that --bin, --trace-for and --seed have an effect; `draws` tells whether the run draws random numbers. Wrong: an
+    option has no effect."""
     if options.bin and not plan.has_moments:
         raise Wrong("--bin does nothing, as the rows of seconds,bit/s are no moments that could be counted; leave it out")
     if options.trace_for and not plan.has_bins:
@@ -66,12 +68,14 @@ def refuse_idle_options(options: LiveOptions, plan: Plan, draws: bool) -> None:
 
 
 def refuse_idle_seed(is_of_link_alone: bool, draws: bool) -> None:
-    """Wrong: a seed is set, and no link draws a number. In simulated time the seed determines all random numbers."""
+    """Checks that a seed has an effect. Wrong: only the links could use the seed (`is_of_link_alone`), but no link draws a number.
+    In simulated time the seed determines all programs' random numbers, too."""
     if is_of_link_alone and not draws:
         raise Wrong("--seed does nothing, as no link draws anything; write a loss, jitter or duplicates, or leave it out")
 
 
 def preset_of(name: Optional[str]) -> Optional[Preset]:
+    """Returns the preset of a name, or None without a name. Wrong: there is no such preset."""
     try:
         return None if name is None else preset(name)
     except ValueError as unknown:
@@ -79,14 +83,14 @@ def preset_of(name: Optional[str]) -> Optional[Preset]:
 
 
 def own_link(text: str, option: str) -> LinkWords:
-    """Returns a link of the command line. Wrong: the text is no link, or empty."""
+    """Returns the link in an option of the command line. Wrong: the text is empty, or isn't a link."""
     if not bare(text):
         raise Wrong(f"{option} {text!r}: {NO_WORDS}; an open one is 'bw 0'")
     return link_of(text, option, Place.KERNELS)
 
 
 def asking(option: str, lines: Iterable[Numbered]) -> Iterator[Numbered]:
-    """Yields the lines that contain a request. Wrong: no line does."""
+    """Returns an option's lines without empty lines and comments. Wrong: no line remains."""
     result = (line for line in lines if bare(line[1]))
     first = next(result, None)
     if first is None:
@@ -95,7 +99,8 @@ def asking(option: str, lines: Iterable[Numbered]) -> Iterator[Numbered]:
 
 
 def numbered_lines(options: LinkOptions) -> Iterator[Numbered]:
-    """Yields the lines from --config, and with the number 0 from --line. Wrong: an option contains no line."""
+    """Yields the lines from --config with their numbers, then the lines from --line with the number 0. Wrong: an option contains no
+    line."""
     if options.config:
         yield from asking("--config", enumerate(read_lines(options.config), 1))
     for text in options.line:
@@ -103,9 +108,10 @@ def numbered_lines(options: LinkOptions) -> Iterator[Numbered]:
 
 
 def lines_of(options: LinkOptions, numbered: Iterable[Numbered]) -> list[str]:
-    """Returns the configuration lines in order. Lines from --up and --down follow lines that configure the same pipe, or otherwise
-    precede all lines, which may configure its queues. A direction without words is the preset's, or open. Wrong: a link or a line
-    is wrong, or the preset has no effect."""
+    """Returns the configuration lines of all options in order; `numbered` are the lines from --config and --line. The line for --up
+    or --down follows these if one of them configures the same pipe, and otherwise precedes these, which may configure the pipe's
+    queues. A direction without words has the preset's link, or an open link. Wrong: a link or a line is wrong, or the preset has no
+    effect."""
     path = preset_of(options.preset)
     inputs, numbers = list[str](), array("I")
     for number, line in numbered:
@@ -133,7 +139,7 @@ def lines_of(options: LinkOptions, numbered: Iterable[Numbered]) -> list[str]:
 
 
 def limit_of(late: Optional[str]) -> Optional[float]:
-    """Returns the limit of --late in ms. Wrong: the limit lacks a unit, and could mean ms or s."""
+    """Returns the limit from --late in ms, or None without the option. Wrong: the limit lacks a unit, and could mean ms or s."""
     if late is None:
         return None
     if late.replace(".", "", 1).isdecimal():
@@ -142,14 +148,15 @@ def limit_of(late: Optional[str]) -> Optional[float]:
 
 
 def noted(plan: Plan, lines: Iterable[Numbered]) -> Iterator[Numbered]:
-    """Yields configuration lines, and notes each for the transcript."""
+    """Yields configuration lines, and notes each line as a remark in the plan."""
     for number, text in lines:
         plan.note("--config" if number else "--line", number, text)
         yield number, text
 
 
 def plan_of(options: LiveOptions, longest: int) -> Plan:
-    """Returns the link's plan for packets of at most `longest` bytes."""
+    """Converts the options of `hinge run` or `hinge udp` into a plan: the text that tells the program hinge-link what to emulate.
+    Packets have at most `longest` bytes."""
     refuse_lost("--transcript", options.transcript, options.files())
     refuse_lost("--json", options.json, [*options.files(), options.transcript])
     refuse_lost("--control", options.control, [*options.files(), options.transcript, options.json])
@@ -189,6 +196,6 @@ def drawn_seed(seed_of_user: Optional[int]) -> int:
 
 
 def draws(plan: Plan) -> bool:
-    """Returns whether the run depends on the seed."""
+    """Returns whether a link draws random numbers, so that the run depends on the seed."""
     lines = chain(plan.configured, (change.line for change in plan.changes.every()))
     return bool(plan.decided or plan.extras) or any("plr" in line for line in lines)

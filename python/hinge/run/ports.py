@@ -1,6 +1,5 @@
-"""Ports of this system through the link, at their own addresses: the client's `localhost:8000` leads over the link to the server's
-room, and from there to this system's port 8000. Commands keep their addresses, no other program is needed, and only these ports
-lead out."""
+"""Ports of this system behind the link, for --to: the client's `localhost:8000` leads over the link to the server's room, and from
+there to this system's port 8000. Commands keep their addresses, no other program is needed, and only these ports lead out."""
 
 from __future__ import annotations
 
@@ -25,7 +24,8 @@ LOOPBACK = {socket.AF_INET: "127.0.0.1", socket.AF_INET6: "::1"}
 
 
 async def carried(reader: StreamReader, writer: StreamWriter) -> None:
-    """Copies a connection's bytes in one direction until the end; if either end breaks off, so does the other end."""
+    """Copies a connection's bytes from `reader` to `writer` until the end of the bytes; breaks off the writer if either connection
+    breaks off."""
     try:
         while data := await reader.read(CHUNK):
             writer.write(data)
@@ -36,8 +36,8 @@ async def carried(reader: StreamReader, writer: StreamWriter) -> None:
 
 
 def relay(doors: Sequence[socket.socket], hosts: Sequence[str], why: str = "") -> None:
-    """Forwards connections at each door to the same port on the first accepting host, forever. If no host accepts, it breaks off
-    and prints `why`."""
+    """Forwards connections at each door (a listening socket) to the same port on the first host that accepts, forever. If no host
+    accepts, breaks the connection off and prints `why`."""
     import asyncio  # which a run without such ports doesn't load
 
     async def meet(reader: StreamReader, writer: StreamWriter) -> None:
@@ -59,7 +59,8 @@ def relay(doors: Sequence[socket.socket], hosts: Sequence[str], why: str = "") -
 
 
 def door(family: socket.AddressFamily, address: str, port: int) -> Optional[socket.socket]:
-    """Returns a listening socket in the current network, or None for a family that the network lacks. Missing: the port is in use."""
+    """Returns a socket that listens in the current network, or None if this is impossible for IPv6. Missing: the port is in use, or
+    the system refuses it for IPv4."""
     sock = socket.socket(family, socket.SOCK_STREAM)
     sock.setsockopt(socket.SOL_SOCKET, socket.SO_REUSEADDR, 1)
     try:
@@ -75,8 +76,8 @@ def door(family: socket.AddressFamily, address: str, port: int) -> Optional[sock
 
 
 class Ports:
-    """Made before this process leaves the system's network, in which another process stays and carries the traffic for the server's
-    room."""
+    """Carries connections to ports of this system through the link. Create this object before this process leaves the system's
+    network: a child process stays there, and forwards the connections that arrive in the server's room."""
 
     def __init__(self, ports: Sequence[int]) -> None:
         self.ports = ports
@@ -85,6 +86,7 @@ class Ports:
         back.close()
 
     def stay(self, back: socket.socket) -> None:
+        """Receives the sockets that listen in the server's room, and forwards their connections to this system's ports, forever."""
         die_with_parent()
         self.front.close()
         doors = array.array("i")
@@ -94,11 +96,11 @@ class Ports:
         relay([socket.socket(fileno=number) for number in doors], [*LOOPBACK.values()], "nothing listens at this system's port")
 
     def silent(self) -> list[int]:
-        """Returns the ports without a listener."""
+        """Returns the ports at which no program of this system listens."""
         return [port for port in self.ports if not any(listens(family, port) for family in LOOPBACK)]
 
     def put_doors(self, rooms: Rooms) -> None:
-        """Puts doors into the server's room and at the client's own address. Call this in the first process."""
+        """Opens listening sockets in the server's room, and at the client's loopback addresses. Call this in the first process."""
         enter(rooms.server)
         doors = [sock for port in self.ports if (sock := door(socket.AF_INET, rooms.ends.server, port))]
         self.front.sendmsg([b"!"], [(socket.SOL_SOCKET, socket.SCM_RIGHTS, array.array("i", [sock.fileno() for sock in doors]))])
@@ -111,5 +113,6 @@ class Ports:
 
 
 def listens(family: socket.AddressFamily, port: int) -> bool:
+    """Returns whether a program listens at a port of this network's loopback."""
     with socket.socket(family, socket.SOCK_STREAM) as sock:
         return sock.connect_ex((LOOPBACK[family], port)) == 0

@@ -1,4 +1,4 @@
-"""The processes that this one starts, and waiting for them and for signals."""
+"""The child processes of this process, and waits for their ends and for signals."""
 
 from __future__ import annotations
 
@@ -14,7 +14,7 @@ SIGNALLED = 128  # and the signal: the status of a command that one ended
 
 
 class Ended(NamedTuple):
-    """How a command ended."""
+    """Describes how a command ended."""
 
     status: int
     after: float  # s
@@ -22,7 +22,7 @@ class Ended(NamedTuple):
 
 
 def name_of(status: int) -> str:
-    """Returns words for a status, to end a sentence."""
+    """Returns the name of the signal that a command's status stands for, or otherwise the status as text."""
     try:
         return signal.Signals(status - SIGNALLED).name if status > SIGNALLED else str(status)
     except ValueError:
@@ -38,9 +38,11 @@ class Ticker:
         self.count = 0
 
     def left(self) -> float:
+        """Returns the seconds until the next call."""
         return max(0.0, self.begun + self.count + 1 - time.monotonic())
 
     def tick(self) -> None:
+        """Calls the function if the next call is due."""
         if self.left() == 0:
             self.count += 1
             self.do(time.monotonic() - self.begun)
@@ -55,7 +57,7 @@ def signal_group(process: int, number: int) -> None:
 
 
 class Processes:
-    """Child processes. All of `signals` must be blocked."""
+    """Holds the child processes that have ended, and waits for others. The caller must have blocked all of `signals`."""
 
     def __init__(self, signals: set[signal.Signals]) -> None:
         self.signals = signals
@@ -63,6 +65,7 @@ class Processes:
         self.ended_at: dict[int, float] = {}  # and when their ends were seen, by the monotonic clock
 
     def reap(self) -> None:
+        """Notes the statuses of all child processes that have ended, without a wait."""
         with suppress(ChildProcessError):
             while True:
                 process, status = os.waitpid(-1, os.WNOHANG)
@@ -74,7 +77,8 @@ class Processes:
     def wait(
         self, process: int, lasting: Optional[float] = None, ticker: Optional[Ticker] = None, needed: Optional[int] = None
     ) -> Optional[int]:
-        """Waits until a process ends, or `needed` ends, or `lasting` seconds pass; returns a signal that arrived first."""
+        """Waits until `process` ends, the process `needed` ends, or `lasting` seconds pass. Returns the number of a signal that
+        arrived first, if any."""
         until = None if lasting is None else time.monotonic() + lasting
         self.reap()
         while process not in self.ended and needed not in self.ended:
@@ -91,7 +95,8 @@ class Processes:
         return None
 
     def poll(self, holds: Callable[[], bool], lasting: float, interval: float) -> Optional[int]:
-        """Waits until `holds` is true, checked at intervals, or `lasting` seconds pass; returns a signal that arrived first."""
+        """Waits until `holds` returns true, which is checked every `interval` seconds, or until `lasting` seconds pass. Returns the
+        number of a signal that arrived first, if any."""
         until = time.monotonic() + lasting
         self.reap()
         while not holds() and time.monotonic() < until:
@@ -102,13 +107,14 @@ class Processes:
         return None
 
     def signal_within(self, seconds: float) -> Optional[int]:
-        """Waits up to some seconds for a signal; returns it, or None. The end of a process doesn't count. If this process was
-        stopped for longer, Python may return a random signal that never came."""
+        """Waits up to `seconds` for a signal, and returns its number. Returns None if no signal arrives or if a child process ends
+        first. After a longer stop of this process, Python may return a random signal, which is ignored."""
         came = signal.sigtimedwait(self.signals, seconds)
         return came.si_signo if came and came.si_signo in self.signals - {signal.SIGCHLD} else None
 
     def end_all(self, processes: list[int], patience: float) -> set[int]:
-        """Ends processes and their groups, and kills those that remain after `patience` seconds; returns the killed processes."""
+        """Ends processes and their groups with SIGTERM, and kills processes and groups that remain after `patience` seconds.
+        Returns the killed processes."""
         self.reap()
         rest = [process for process in processes if process not in self.ended]
         for process in rest:
@@ -122,7 +128,8 @@ class Processes:
         return victims
 
     def endings(self, processes: dict[str, int], start: float, patience: float) -> dict[str, Ended]:
-        """Ends all commands, by name and process, and returns how each ended. `start` is their start on the monotonic clock."""
+        """Ends commands, each of which has a name and a process, and returns how each ended, by name. `start` is the commands'
+        start on the monotonic clock; after `patience` seconds, the remaining commands are killed."""
         self.reap()
         themselves = {name for name, process in processes.items() if process in self.ended}
         others = [process for name, process in processes.items() if name not in themselves]
@@ -135,7 +142,7 @@ class Processes:
         return endings
 
     def is_there(self, process: int) -> bool:
-        """Returns whether the process, or a member of its group, exists."""
+        """Returns whether a process, or another member of its group, exists."""
         self.reap()
         try:
             os.killpg(process, 0)
@@ -144,7 +151,7 @@ class Processes:
             return process not in self.ended
 
     def end(self, process: int, patience: float) -> None:
-        """Ends a process, and waits up to `patience` seconds."""
+        """Ends a process with SIGTERM, and waits up to `patience` seconds for its end."""
         self.reap()
         if process not in self.ended:
             os.kill(process, signal.SIGTERM)

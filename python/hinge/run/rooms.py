@@ -1,7 +1,8 @@
-"""Two rooms, which are network namespaces for the client and the server. Only the host connects them, through two tun interfaces.
+"""Two rooms, which are network namespaces for the client and the server. Only the host program hinge-link connects the rooms,
+through two tun interfaces.
 
-Everything depends on one process, the first in a PID namespace. When the process ends, for example because `hinge run` was killed,
-the kernel ends all processes in the rooms and removes the rooms. No root is needed if users may create namespaces. Linux only."""
+Everything depends on the first process in a PID namespace. When this process ends, for example because `hinge run` was killed, the
+kernel ends all processes in the rooms and removes the rooms. No root is needed if users may create namespaces. Linux only."""
 
 from __future__ import annotations
 
@@ -37,7 +38,8 @@ OWN_LAST = "precedence fd08::/15 1\n"
 
 
 def is_chrooted() -> bool:
-    """Returns whether the root is probably a chroot: its root is seldom a file system's root."""
+    """Returns whether this process is probably in a chroot, because no mount is at `/`: a chroot's root is seldom a file system's
+    root."""
     try:
         return all(line.split()[4] != "/" for line in read_system("/proc/self/mountinfo").splitlines())
     except OSError:
@@ -48,7 +50,7 @@ INSTEAD = "or add --simulated, which needs neither namespaces nor /dev/net/tun"
 
 
 def advice(number: Optional[int]) -> str:
-    """Returns advice for refused namespaces."""
+    """Returns advice for a user to whom the system refuses namespaces; `number` is the error's number."""
     if number == errno.EPERM and is_chrooted():
         return "in a chroot the kernel gives them to root alone: run it as root"
     if setting("kernel/apparmor_restrict_unprivileged_userns") == "1":
@@ -64,7 +66,8 @@ def advice(number: Optional[int]) -> str:
 
 
 def unshared() -> bool:
-    """Leaves the system's namespaces, keeping the system's users if root may; returns whether there is a new user namespace."""
+    """Moves this process into new namespaces of mounts, processes and networks; returns whether there is a new user namespace too.
+    root keeps the system's users if the system permits."""
     flags = NEWNS | NEWPID | NEWNET
     if os.geteuid() == 0:
         with suppress(OSError):
@@ -75,19 +78,20 @@ def unshared() -> bool:
 
 
 class System:
-    """Whether this process still has the mounts of the system, in which no run may put anything over a user's file."""
+    """Holds whether this process has left the system's mounts (`is_left`). Before that, a run must not mount over a user's file."""
 
     is_left = False
 
 
 def refuse_system() -> None:
+    """Checks that this process has left the system's mounts. RuntimeError: a mount would change the user's system."""
     if not System.is_left:
         raise RuntimeError("this process has the system's own mounts")
 
 
 def leave_the_system() -> bool:
-    """Moves this process into new namespaces; returns whether there is a new user namespace. Missing: the system refuses
-    namespaces."""
+    """Moves this process into new namespaces, and keeps later mounts there; returns whether there is a new user namespace. Missing:
+    the system refuses namespaces, or has no /proc."""
     users = Users()
     try:
         own = unshared()
@@ -106,24 +110,26 @@ def leave_the_system() -> bool:
 
 @kept_as_step
 def this_network() -> int:
+    """Returns a descriptor of the current network namespace."""
     return held("/proc/thread-self/ns/net")
 
 
 @kept_as_step
 def see_own_processes() -> None:
-    """Makes /proc show the processes in this namespace."""
+    """Makes /proc show only the processes in this namespace, if the system permits."""
     refuse_system()
     with suppress(OSError):  # a container that hides parts of /proc: the rooms see the container's processes
         mount("proc", "/proc", "proc", 0)
 
 
 def may_ping() -> str:
-    """Returns the range of groups that may send pings, which is the user's own."""
+    """Returns the first and the last group that may send pings, as a setting's text: both are this process's group."""
     return f"{os.getegid()} {os.getegid()}"
 
 
 def furnish() -> int:
-    """Prepares the current network namespace as a room; returns its descriptor."""
+    """Makes the current network namespace a room, in which users may send pings and servers use low ports; returns its
+    descriptor."""
     set_up("lo")
     try_to_write("/proc/sys/net/ipv4/ping_group_range", may_ping())
     try_to_write("/proc/sys/net/ipv4/ip_unprivileged_port_start", "0")
@@ -132,9 +138,10 @@ def furnish() -> int:
 
 @kept_as_step
 def put_over(path: str, text: str) -> None:
-    """Replaces a file in these namespaces only. The text is on an unnamed file system, so nothing remains after the run.
+    """Replaces a file's text in these namespaces only, by a mount. The text is on a temporary file system, so nothing remains after
+    the run.
 
-    The file keeps a name there, so that a nested run can do the same."""
+    The new file keeps a name on that file system, so that a nested run can replace the file again."""
     refuse_system()
     folder = temporary_place()
     product = os.path.join(folder, "made")
@@ -148,8 +155,8 @@ def put_over(path: str, text: str) -> None:
 
 
 def prefer_ipv4() -> bool:
-    """Makes the C library return IPv4 addresses first, since some programs don't listen on IPv6. Returns whether the system
-    permits this."""
+    """Makes the C library return IPv4 addresses first, since some programs don't listen on IPv6. Returns whether the file with the
+    order of addresses could be replaced."""
     try:
         rules = read_system(at_root(ORDER_OF_ADDRESSES))
         is_default = not any(line.split()[:1] == ["precedence"] for line in rules.splitlines())
@@ -160,9 +167,8 @@ def prefer_ipv4() -> bool:
 
 
 def add_names(names: str, of_six: str, example: str, address: str) -> None:
-    """Makes hosts known by name in these namespaces. `names` contains lines for /etc/hosts, including one for `example`.
-
-    `of_six` adds IPv6 addresses to the names, if the C library prefers IPv4."""
+    """Makes hosts known by name in these namespaces: adds the lines `names`, and if the C library prefers IPv4 the lines `of_six`
+    with IPv6 addresses, to /etc/hosts. If that fails, prints advice with the host name `example` and its address."""
     names += of_six * prefer_ipv4()
     try:
         all_names = names + read_system(at_root("/etc/hosts"))
@@ -176,7 +182,7 @@ def add_names(names: str, of_six: str, example: str, address: str) -> None:
 
 
 def why_not(name: str, error: OSError) -> str:
-    """Returns why a command can't be started."""
+    """Returns the reason why a command can't be started, in words."""
     path = shutil.which(name)
     if error.errno == errno.ENOEXEC and path and os.path.exists(PAUSES):
         with suppress(OSError):
@@ -186,7 +192,8 @@ def why_not(name: str, error: OSError) -> str:
 
 
 def start(words: Sequence[str], mask: Mask, enter_room: Callable[[], None], own_users: bool) -> int:
-    """Starts a command in the room that `enter_room` enters; returns its process. The command blocks the signals in `mask` only."""
+    """Starts a command in the room that `enter_room` enters; returns its process. The command blocks the signals in `mask` only. In
+    a new user namespace (`own_users`), the command keeps the rights to use the network."""
 
     def enter_and_execute() -> int:
         enter_room()
@@ -202,7 +209,7 @@ def start(words: Sequence[str], mask: Mask, enter_room: Callable[[], None], own_
 
 
 class Rooms:
-    """Both rooms. Create them in the first process, which stays in the server's room."""
+    """Holds the rooms of the client and the server. Create this object in the first process, which stays in the server's room."""
 
     def __init__(self, mtu: int, own_users: bool, ends: Ends) -> None:
         self.own_users, self.ends = own_users, ends
@@ -221,7 +228,7 @@ class Rooms:
             add_route(self.ends.server6)
 
     def dropped(self) -> list[int]:
-        """Returns how many packets the system dropped before the host, for each way."""
+        """Returns how many packets the system dropped before the link, for each way (one direction of the link)."""
         items = []
         for room in (self.client, self.server):
             enter(room)
@@ -229,8 +236,8 @@ class Rooms:
         return items
 
     def start(self, room: int, words: Sequence[str], mask: Mask, cgroup: Optional[Cgroup], is_behind: bool = False) -> int:
-        """Starts a command in a room and a cgroup; returns its process. A command behind others is in a process group that can't
-        read from the terminal."""
+        """Starts a command in a room and a cgroup; returns its process. With `is_behind`, the command runs in the background: its
+        process group can't read from the terminal."""
 
         def enter_room() -> None:
             if cgroup:

@@ -1,4 +1,4 @@
-"""Requests to the kernel about the current network namespace through rtnetlink(7), one by one or many in a few messages."""
+"""Requests to the kernel about the current network namespace through rtnetlink(7), singly or as batches in a few messages."""
 
 from __future__ import annotations
 
@@ -20,17 +20,21 @@ SHARED = list[socket.socket]()  # the one for all requests in a `one_socket` blo
 
 
 class Request(NamedTuple):
+    """Describes a request to the kernel."""
+
     kind: int
     body: bytes
     may_fail: bool = False  # as where the system has no IPv6
 
 
 def packed(attributes: Iterable[tuple[int, bytes]]) -> bytes:
+    """Returns the bytes of attributes, each of which has a number and data."""
     return b"".join(struct.pack("HH", 4 + len(data), number) + data + bytes(-len(data) % 4) for number, data in attributes)
 
 
 @contextmanager
 def a_line() -> Iterator[socket.socket]:
+    """Yields a socket to the kernel: the shared socket in a `one_socket` block, otherwise a new one."""
     if SHARED:
         yield SHARED[0]
         return
@@ -52,14 +56,14 @@ def one_socket() -> Iterator[None]:
 
 @kept_as_step
 def index_of(name: str) -> int:
-    """Returns an interface's number."""
+    """Returns the kernel's number for an interface."""
     with a_line() as line:
         options = struct.pack("16s24x", name.encode())
         return int(struct.unpack_from("i", fcntl.ioctl(line, SIOCGIFINDEX, options), 16)[0])
 
 
 def answers(line: socket.socket, last: int) -> Iterator[tuple[int, int]]:
-    """Yields the number and the error of each reply, up to request `last`."""
+    """Yields the number of the request and the error's number for each reply, up to the reply to request `last`."""
     number = 0
     while number != last:
         data = line.recv(1 << 16)
@@ -70,7 +74,8 @@ def answers(line: socket.socket, last: int) -> Iterator[tuple[int, int]]:
 
 
 def messages(requests: list[Request]) -> bytes:
-    """Returns the messages of requests, which ask for an answer where one fails, and behind the last one."""
+    """Returns the bytes of messages for requests, which are numbered from 1. The kernel replies to a request that fails, and to the
+    last."""
     return b"".join(
         HEADER.pack(HEADER.size + len(body), kind, REQUEST | CREATE | ACKNOWLEDGED * (number == len(requests)), number, 0) + body
         for number, (kind, body, _) in enumerate(requests, 1)
@@ -79,7 +84,8 @@ def messages(requests: list[Request]) -> bytes:
 
 @kept_as_step
 def send_batch(data: bytes, requests: list[Request]) -> None:
-    """Sends messages; only the last message is acknowledged. OSError: one failed that may not."""
+    """Sends the messages for requests, and waits for the reply to the last request. OSError: a request failed, and wasn't allowed
+    to fail."""
     with a_line() as line:
         line.send(data)
         errors = [error for number, error in answers(line, len(requests)) if error and not requests[number - 1].may_fail]
@@ -88,7 +94,7 @@ def send_batch(data: bytes, requests: list[Request]) -> None:
 
 
 def ask_many(requests: Iterable[Request]) -> None:
-    """Sends requests in order. Raises the OSError of the first failed request, unless that request may fail."""
+    """Sends requests in order, in batches. OSError: a request failed, and wasn't allowed to fail; later batches aren't sent."""
     batch, size = list[Request](), 0
     for request in requests:
         batch.append(request)
@@ -101,5 +107,5 @@ def ask_many(requests: Iterable[Request]) -> None:
 
 
 def ask_kernel(kind: int, body: bytes, attributes: Iterable[tuple[int, bytes]]) -> None:
-    """Sends a single request. An ioctl would need root in some cases."""
+    """Sends a single request. An ioctl in place of it would need root in some cases."""
     ask_many([Request(kind, body + packed(attributes))])

@@ -1,4 +1,4 @@
-"""`--map` rules as lines of a plan: they select a pipe or queue for the packets of a live link."""
+"""Rules from --map as lines of a plan. A rule selects a pipe or queue for the packets that match the rule."""
 
 from __future__ import annotations
 
@@ -14,7 +14,7 @@ ENDS = (("src", "dst"), ("sport", "dport"))
 
 
 def net_words(net: Optional[Net]) -> str:
-    """Returns a network's address and mask as IPv6 hex digits."""
+    """Returns a network's address and mask as hex digits of IPv6; all networks without a network."""
     if net is None:
         return EVERYWHERE
     address, mask = int(net.network_address), int(net.netmask)
@@ -24,7 +24,7 @@ def net_words(net: Optional[Net]) -> str:
 
 
 def narrower(one: Optional[Net], other: Net) -> Optional[Net]:
-    """Returns the network that two networks share, or None if they are disjoint."""
+    """Returns the network that two networks share, or None if they are disjoint; a first network None contains all addresses."""
     if one is None:
         return other
     if one.version != other.version or not one.overlaps(other):
@@ -33,7 +33,7 @@ def narrower(one: Optional[Net], other: Net) -> Optional[Net]:
 
 
 class Rule:
-    """A rule in short form. Wrong: the text is no rule."""
+    """Describes a rule in short form. Wrong: the text isn't a rule."""
 
     def __init__(self, text: str) -> None:
         try:
@@ -44,7 +44,8 @@ class Rule:
         self.target, self.way = Target(*target), self.short.way
 
     def nets(self) -> Iterator[tuple[Optional[Net], Optional[Net]]]:
-        """Yields the networks of both ends, for each way to satisfy `host`."""
+        """Yields the networks of the source and the destination. If the rule contains `host`, which matches either end, yields a
+        pair for each end."""
         inputs, host = self.short.nets, self.short.nets.get("host")
         if host is None:
             yield inputs.get("src"), inputs.get("dst")
@@ -55,7 +56,8 @@ class Rule:
                 yield both.get("src"), both.get("dst")
 
     def spans(self) -> Iterator[tuple[PortSpan, PortSpan]]:
-        """Yields the ports of both ends, for each way to satisfy `port`."""
+        """Yields the ports of the source and the destination. If the rule contains `port`, which matches either end, yields a pair
+        for each end."""
         inputs = {end: self.short.ports.get(end, EVERY_PORT) for end in ENDS[1]}
         either = self.short.ports.get("port")
         if either is None:
@@ -68,7 +70,7 @@ class Rule:
                 yield ends["sport"], ends["dport"]
 
     def lines(self, way: int) -> list[str]:
-        """Returns the equivalent lines in the plan of a way."""
+        """Returns the plan's lines that together mean this rule, for packets of a way (one direction of a link)."""
         head = f"map {way} {int(self.target.kind == 'queue')} {self.target.number}"
         dscp = -1 if self.short.dscp is None else self.short.dscp
         return [

@@ -1,5 +1,5 @@
-"""The command lines of live links, with a type for each option. Commands create these objects from argparse's namespaces, and each
-field bears its option's name. Dataclasses would load too slowly for a help."""
+"""The options of commands with running links, each option with its type. Commands create these objects from argparse's namespaces,
+and each field bears its option's name. Dataclasses would load too slowly for a help."""
 
 from __future__ import annotations
 
@@ -10,7 +10,7 @@ Some = TypeVar("Some", bound="Options")
 
 
 class Options(SimpleNamespace):
-    """The options of a command line."""
+    """Holds the options of a command line."""
 
     def but(self: Some, **others: Any) -> Some:
         """Returns a copy with some options replaced."""
@@ -18,7 +18,7 @@ class Options(SimpleNamespace):
 
 
 class LinkOptions(Options):
-    """The link, and its changes during the run."""
+    """Holds the options for the link, and for the link's changes during the run."""
 
     up: Optional[str]
     down: Optional[str]
@@ -36,7 +36,7 @@ class LinkOptions(Options):
     more_files: Sequence[str]  # from which some of the lines were read
 
     def files(self) -> Sequence[Optional[str]]:
-        """Returns all files to read."""
+        """Returns the paths of all input files; None stands for an option without a file."""
         return self.config, self.timeline, self.faults, self.up_trace, self.down_trace, *self.more_files
 
     def has_link(self) -> bool:
@@ -46,7 +46,7 @@ class LinkOptions(Options):
 
 
 class RecordOptions(Options):
-    """Random seeds, outputs, and the control socket."""
+    """Holds the options for the random seed, the outputs, and the control socket."""
 
     seed: Optional[int]
     transcript: Optional[str]
@@ -58,14 +58,14 @@ class RecordOptions(Options):
 
 
 class LiveOptions(RecordOptions, LinkOptions):
-    """The options of both `hinge run` and `hinge udp`."""
+    """Holds the options of both `hinge run` and `hinge udp`."""
 
     most: int  # bytes of a part of the transcript
     watch: bool
 
 
 class SimulatedOptions(RecordOptions):
-    """The options of commands that can run in simulated time."""
+    """Holds the options of commands that can run in simulated time."""
 
     simulated: bool
     twice: bool
@@ -84,10 +84,13 @@ class SimulatedOptions(RecordOptions):
     command: list[str]
 
     def leads_outside(self) -> bool:
+        """Returns whether an option connects a host to the system's network."""
         return False
 
 
 class RunOptions(SimulatedOptions, LiveOptions):
+    """Holds the options of `hinge run`."""
+
     net: Optional[str]
     netns: Optional[str]
     container: Optional[str]
@@ -103,6 +106,8 @@ class RunOptions(SimulatedOptions, LiveOptions):
 
 
 class NetOptions(SimulatedOptions):
+    """Holds the options of `hinge net`."""
+
     file: str
     transcripts: Optional[str]
     logs: Optional[str]

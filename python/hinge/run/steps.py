@@ -1,4 +1,5 @@
-"""The actions that make rooms, recorded as steps: a simulated machine's first process performs them (rooms.c)."""
+"""The actions that make rooms (network namespaces), recorded as steps, which the first process of a simulated machine performs
+(rooms.c)."""
 
 from __future__ import annotations
 
@@ -11,7 +12,8 @@ Call = TypeVar("Call", bound=Callable[..., Any])
 
 
 class Steps:
-    """The calls while this is the present one. Networks and interfaces are numbers; network 0 belongs to the first process."""
+    """Records the calls of this thread within a `with` block. Each method has the name of the function that it replaces. Networks
+    and interfaces are numbers in place of descriptors; network 0 belongs to the first process."""
 
     def __init__(self, root: str) -> None:
         """`root` is the folder that the machine has at /."""
@@ -27,7 +29,7 @@ class Steps:
         PRESENT.steps = None
 
     def see_own_processes(self) -> None:
-        """Nothing: the machine's first process sees no others."""
+        """Does nothing: the machine's first process sees no other processes."""
 
     def unshare(self, _: int) -> None:
         self.inside = len(self.names)
@@ -61,8 +63,8 @@ class Steps:
 
 
 class Present(threading.local):
-    """Each thread's steps, as a search plans several machines at a time: the end of another thread must not perform this thread's
-    calls here."""
+    """Holds each thread's steps. A search plans several machines at a time: when a thread ends its recording, the calls of other
+    threads must still be recorded."""
 
     steps: Optional[Steps] = None
 
@@ -71,7 +73,7 @@ PRESENT = Present()
 
 
 def kept_as_step(do: Call) -> Call:
-    """Returns a call that the present steps record, if there are any."""
+    """Wraps a function: while this thread records steps, a call is recorded instead; returns the new function."""
 
     @wraps(do)
     def either(*words: Any, **more: Any) -> Any:
@@ -82,5 +84,5 @@ def kept_as_step(do: Call) -> Call:
 
 
 def at_root(path: str) -> str:
-    """Returns the place of a file of the rooms' system."""
+    """Returns the path at which this process finds a file of the rooms' system."""
     return (PRESENT.steps.root if PRESENT.steps else "") + path

@@ -1,4 +1,4 @@
-"""A run's summary for people and for programs: its reliability and its counts."""
+"""A run's summary for people and for programs: the run's reliability, and the counts of packets in each direction of the links."""
 
 from __future__ import annotations
 
@@ -17,7 +17,8 @@ Record = dict[str, Union[int, float]]
 
 
 def times(way: Way) -> dict[str, float]:
-    """Returns the lateness and the unread time in ms, as shares of packets and time."""
+    """Returns how late packets left and how long packets waited unread, in ms: for each share of the packets, and for 99 % of the
+    time, the least limit that the share keeps."""
     return {
         f"{name}_{label}_ms": kind.within(share)
         for name, kind in (("late", way.late), ("unread", way.unread))
@@ -26,9 +27,10 @@ def times(way: Way) -> dict[str, float]:
 
 
 def judged(name: str, way: Way, drops: int, limit: float) -> Iterator[str]:
-    """Yields the reasons not to trust a direction, with a limit in ms.
+    """Yields the reasons not to trust a way (one direction of a link), by a limit in ms for 99 % of the packets and 99 % of the
+    time.
 
-    The limit also applies to shares of the time, since a stall may last long but affect few packets."""
+    The limit also applies to the time, since a stall may last long but affect few packets."""
     result = times(way)
     for label in ("late", "unread"):
         value, of_time = result[f"{label}_p99_ms"], result[f"{label}_time_p99_ms"]
@@ -42,7 +44,8 @@ def judged(name: str, way: Way, drops: int, limit: float) -> Iterator[str]:
 
 
 def void(counts: Counts, drops: Sequence[int], limit: Optional[float], names: Sequence[str] = NAMES) -> list[str]:
-    """Returns the reasons that make a run unreliable, if any. Without a limit: the host broke off, or the machine was suspended."""
+    """Returns the reasons that make a run void (to be repeated), if any. Without a limit there are two: the host broke off, or the
+    machine was suspended. `drops` are the packets that the system dropped before each way."""
     lines: list[str] = []
     for name, way, losses in zip(names, counts.ways, drops):
         lines += [] if limit is None else judged(name, way, losses, limit)
@@ -60,7 +63,7 @@ SECOND_PASS = re.compile(r"^(?:jitter \d+|fault \d+ 2 \d+) (\d+)", re.MULTILINE)
 
 
 def cautions(counts: Counts, drops: Sequence[int], plan: str, names: Sequence[str] = NAMES) -> list[str]:
-    """Returns warnings for a run without a limit, if the host was late by a large part of the shortest delay in the plan."""
+    """Returns warnings for a run without a limit, if the host was late by more than a tenth of the shortest delay in the plan."""
     second = min(map(int, SECOND_PASS.findall(plan)), default=MOST_PIPE + 1)
     delays = [int(delay) for pipe, delay in DELAY.findall(plan) if int(delay) and int(pipe or 0) < second]
     limit = min(delays) / PART_OF_DELAY if delays else WITHOUT_DELAY
@@ -82,7 +85,7 @@ SELDOM = (
 
 
 def direction(name: str, way: Way, drops: int) -> str:
-    """Returns the counts of a direction. Excessive lateness is reported; the record always contains it."""
+    """Returns the counts of a way in words, without counts of 0 that are rare."""
     text = f"{way['came']} came, {way['sent']} delivered, {way['lost']} lost, {way['full']} met a full queue"
     seldom = "".join(f", {way[key]} {words}" for key, words in SELDOM if way[key])
     drops_text = f", the system dropped {drops} before the link and {way['refused']} behind it" if drops or way["refused"] else ""
@@ -90,10 +93,12 @@ def direction(name: str, way: Way, drops: int) -> str:
 
 
 def line(counts: Counts, drops: Sequence[int]) -> str:
+    """Returns the summary's line with the counts of both ways."""
     return "; ".join(direction(name, way, losses) for name, way, losses in zip(NAMES, counts.ways, drops))
 
 
 def way_record(way: Way, drops: int) -> Record:
+    """Returns a way's part of the JSON summary."""
     return {
         **{key: way[key] for key in COUNTS if not key.endswith("_most")},
         **times(way),
@@ -102,18 +107,21 @@ def way_record(way: Way, drops: int) -> Record:
 
 
 def host_record(counts: Counts) -> dict[str, object]:
+    """Returns the part of the JSON summary about the host program: the clock, and how often the program woke and looked after the
+    links."""
     return {"moment": counts["moment"], "wakeups": counts["wakes"], "turns": counts["turns"]}
 
 
 def record(counts: Counts, drops: Sequence[int], status: Optional[int], seed: int, faults: list[str]) -> dict[str, object]:
-    """Returns the summary as JSON."""
+    """Returns the summary for JSON; `faults` are the reasons why the run is void."""
     ways = [way_record(way, losses) for way, losses in zip(counts.ways, drops)]
     front = {"format": FORMAT, "status": status, "seed": seed, "void": faults}
     return front | host_record(counts) | dict(zip(NAMES, ways))
 
 
 def shown(name: str, before: Way, now: Way) -> str:
-    """Returns a direction's counts between two looks a second apart; the delay is the mean over packets that left."""
+    """Returns the growth of a way's counts between two readings a second apart, in words; the delay is the mean over packets that
+    left."""
     more = {key: now[key] - before[key] for key in ("sent", "sent_bytes", "stayed", "lost", "full")}
     delay, rate = more["stayed"] / max(1, more["sent"]) / 1e6, more["sent_bytes"] * 8 / 1e6
     return f"{name:4} {rate:9.3f} Mbit/s {now['held']:6} in link {delay:9.3f} ms {more['lost'] + more['full']:5} dropped"
@@ -126,7 +134,7 @@ class Watch:
         self.page, self.before = page, page.read()
 
     def tick(self, at: float) -> None:
-        """Prints the last second; `at` is the time in seconds since the start."""
+        """Prints a line about the last second; `at` is the time in seconds since the start."""
         counts = self.page.read()
         ways = (shown(*way) for way in zip(NAMES, self.before.ways, counts.ways))
         tell("  | ".join([f"{at:6.1f} s", *ways]))

@@ -1,4 +1,4 @@
-"""Linux system calls missing from Python's standard library before 3.12: namespaces, mounts, and capabilities to keep."""
+"""Linux system calls that Python's standard library lacks before 3.12, for namespaces, mounts and capabilities."""
 
 from __future__ import annotations
 
@@ -38,11 +38,12 @@ class Missing(Fault):
 
 
 def is_simulated() -> bool:
-    """Returns whether this is a simulated machine, whose kernel reports the time that it gave to spinning processes."""
+    """Returns whether this process runs in a simulated machine, whose kernel alone has the file /proc/spun."""
     return os.path.exists("/proc/spun")
 
 
 def must(result: int) -> None:
+    """Checks the result of a system call. OSError: the result is negative; the error has the number from the C library."""
     if result < 0:
         number = ctypes.get_errno()
         raise OSError(number, os.strerror(number))
@@ -55,6 +56,7 @@ def exchange(one: str, other: str) -> None:
 
 @kept_as_step
 def unshare(flags: int) -> None:
+    """Moves this process into new namespaces of the kinds in `flags`."""
     must(libc.unshare(flags))
 
 
@@ -77,15 +79,15 @@ def mount(source: str, target: str, kind: str, flags: int, more: Optional[str] =
 
 
 def unmount(target: str) -> None:
-    """Unmounts a file system, which disappears when the last process stops using it."""
+    """Unmounts a file system, which remains until the last process stops using it."""
     must(libc.umount2(os.fsencode(target), DETACH))
 
 
 def keep_mounts_to_itself() -> None:
     """Keeps this namespace's mounts from spreading to other namespaces.
 
-    The kernel only accepts this at the root of a file system, which a chroot's root isn't. So the call uses the namespace's
-    root."""
+    The kernel only accepts this at the root of a file system. A chroot's root usually isn't one; the call then uses the namespace's
+    root, and returns to the chroot."""
     try:
         mount("none", "/", "none", REC | PRIVATE)
     except OSError as error:
@@ -100,7 +102,8 @@ def keep_mounts_to_itself() -> None:
 
 
 def die_with_parent(parent: int = 0, number: int = KILL) -> None:
-    """Sends this process a signal when its parent ends, or at once if `parent` is given and has already ended."""
+    """Makes the kernel send this process a signal when the parent ends. If the process `parent` has already ended, sends the signal
+    at once."""
     libc.prctl(SET_PDEATHSIG, number)
     if parent and os.getppid() != parent:
         os.kill(os.getpid(), number)
@@ -116,13 +119,14 @@ def keep_network_rights() -> None:
 
 
 def write(path: str, text: str) -> None:
+    """Writes a text into a file."""
     with open(path, "w") as file:
         file.write(text)
 
 
 @kept_as_step
 def try_to_write(path: str, text: str) -> None:
-    """Writes a setting; ignores a setting that doesn't exist or can't be written."""
+    """Writes a kernel setting; does nothing if the setting doesn't exist or can't be written."""
     with suppress(OSError):
         write(path, text)
 

@@ -1,4 +1,5 @@
-"""Recorded bandwidth: files with `seconds,bit/s`, or with mahimahi's milliseconds, at each of which 1,500 bytes may leave."""
+"""Recorded bandwidth, from two kinds of files: lines `seconds,bit/s`, or mahimahi's lines, each of which is a moment in
+milliseconds at which 1,500 bytes may leave."""
 
 from __future__ import annotations
 
@@ -27,7 +28,7 @@ class Rate(NamedTuple):
 
 
 class Rates:
-    """The rates of a trace in arrays, since an object for each takes ten times the memory of its line."""
+    """Holds a trace's rates in arrays, since an object for each rate would need ten times the memory of the rate's line."""
 
     def __init__(self, rates: Iterable[Rate] = ()) -> None:
         self.moments, self.rates = array("Q"), array("Q")
@@ -43,13 +44,15 @@ class Rates:
 
 
 class Trace(NamedTuple):
-    """Either rates, with the last one kept, or moments in ms, with the bytes that may leave at each."""
+    """Holds a trace: either rates, of which the last continues to the run's end, or mahimahi's moments in ms, of which the last is
+    also the period."""
 
     rates: Rates
     moments: Moments
 
 
 def number(text: str) -> Optional[float]:
+    """Returns a text's number, or None if the text isn't a number."""
     try:
         return float(text)
     except ValueError:
@@ -57,7 +60,7 @@ def number(text: str) -> Optional[float]:
 
 
 def rows_of(lines: Iterable[str]) -> Iterator[Row]:
-    """Yields the number and the fields of each line with contents, except a header."""
+    """Yields the number and the fields of each line, except empty lines and a header without numbers."""
     first = True
     for at, line in enumerate(lines, 1):
         fields = line.split("#", 1)[0].strip().split(",")
@@ -69,6 +72,7 @@ def rows_of(lines: Iterable[str]) -> Iterator[Row]:
 
 
 def rate_of(fields: list[str]) -> Rate:
+    """Returns the rate in a line's fields. ValueError: there are not two numbers, or a number is outside its range."""
     seconds, rate = (float(field) for field in fields)
     if not (math.isfinite(seconds) and 0 <= seconds * SECOND <= LAST_MOMENT and 0 <= rate <= MOST):
         raise ValueError
@@ -76,6 +80,8 @@ def rate_of(fields: list[str]) -> Rate:
 
 
 def rates_of_rows(path: str, rows: Iterable[Row]) -> Rates:
+    """Returns the rates in the rows of a file. Wrong: a row isn't a rate, is earlier than the row before, or there are too many
+    rows."""
     rates = Rates()
     for at, fields in rows:
         if at > MOST_LINES:
@@ -90,8 +96,8 @@ def rates_of_rows(path: str, rows: Iterable[Row]) -> Rates:
 
 
 def read_moments(path: str, rows: Iterable[Row]) -> Moments:
-    """Reads mahimahi's moments in ms; returns them, and the last is the period. Wrong: a line is no moment, or is earlier than
-    the line before."""
+    """Returns mahimahi's moments in ms from the rows of a file. The last moment is the period, which is at least 1 ms. Wrong: a row
+    isn't a moment, or is earlier than the row before."""
     numbers = array("I")
     for at, fields in rows:
         if len(fields) > 1:
@@ -106,15 +112,17 @@ def read_moments(path: str, rows: Iterable[Row]) -> Moments:
 
 
 def spelled(moments: Moments) -> str:
-    """Returns the words for moments, joined step by step, since each object needs far more memory than its letters."""
+    """Returns the words for moments. Joins pieces of them, since all words as objects would need far more memory than their
+    letters."""
     return " ".join(" ".join(map(str, moments[at : at + PIECE])) for at in range(0, len(moments), PIECE))
 
 
 def counted(path: str, moments: Moments, bin_ns: int, longest: int) -> list[Rate]:
-    """Returns a rate for each bin of moments; equal rates in a row are merged, and the last bin ends with the period.
+    """Returns the rates in bins of `bin_ns` from the number of moments in each bin. Consecutive bins with equally many moments have
+    a single rate; the last bin ends with the period.
 
-    Within bins that contain no moment, the longest packet leaves in as much time as they last. Wrong: bins are too long or too
-    many."""
+    Where bins contain no moment, the rate lets a packet of `longest` bytes leave during these bins. Wrong: the bins are longer than
+    the period, or too many."""
     period = moments[-1] * MS
     if bin_ns > period:
         raise Wrong(f"{path}: the bin is longer than the trace, which begins anew after {moments[-1]} ms")
@@ -136,7 +144,7 @@ def counted(path: str, moments: Moments, bin_ns: int, longest: int) -> list[Rate
 
 
 def read_trace(path: str, noted: Callable[[Iterable[str]], Iterable[str]]) -> Trace:
-    """Returns a file's trace, and notes its lines. Wrong: the file contains no rows of a trace."""
+    """Returns a file's trace; passes the file's lines through `noted`. Wrong: the file contains no rows, or a wrong row."""
     with untrusted(path):
         rows = rows_of(noted(read_lines(path, None)))
         first = next(rows, None)

@@ -1,4 +1,4 @@
-"""The files of a transcript. A transcript continues in another file before the audit's limit."""
+"""The files of a transcript, which is the history of a link. A transcript continues in another file before the audit's limit."""
 
 from __future__ import annotations
 
@@ -14,7 +14,8 @@ AUDITED = 268_435_456  # bytes: the most that an audit reads without being told
 
 
 def refuse_own_input(option: str, path: Optional[str], others: Iterable[Optional[str]]) -> None:
-    """Wrong: an output file is also read, or written twice, and would be emptied."""
+    """Checks that an output file isn't also an input or another output, `others`, and would be emptied. Wrong: it is, or its name
+    contains a line feed."""
     if path is None:
         return
     if "\n" in os.path.abspath(path):
@@ -25,7 +26,7 @@ def refuse_own_input(option: str, path: Optional[str], others: Iterable[Optional
 
 
 def refuse_lost(option: str, path: Optional[str], others: Iterable[Optional[str]]) -> None:
-    """Wrong: the same, or the file can't be written; found out before the run."""
+    """Checks before the run that an output file can be written, and isn't one of the files `others`. Wrong: it can't, or is."""
     refuse_own_input(option, path, others)
     if path is None or path == "-":
         return
@@ -38,11 +39,12 @@ def refuse_lost(option: str, path: Optional[str], others: Iterable[Optional[str]
 
 
 def parts_of(transcript: str, count: int) -> list[str]:
+    """Returns the paths of a transcript in `count` files."""
     return [transcript, *(f"{transcript}.{number}" for number in range(1, count))]
 
 
 def files_of(transcript: str) -> list[str]:
-    """Returns the existing files of a transcript. The first is always included, and reported as missing when it is read."""
+    """Returns the existing files of a transcript, and always the first, whose absence a reader reports."""
     result = [transcript]
     while is_beside(following := f"{transcript}.{len(result)}"):
         result.append(following)
@@ -50,7 +52,8 @@ def files_of(transcript: str) -> list[str]:
 
 
 def told(transcript: str, count: int) -> Iterator[str]:
-    """Yields lines about the files for the user."""
+    """Yields lines for the user about a transcript in several files, and about files that are too large for an audit without
+    options."""
     parts = [] if transcript.startswith(f"{KEPT}/") else parts_of(transcript, count)
     if len(parts) > 1:
         some = f"{parts[0]}, {parts[1]}{' ..' if count > 2 else ''}"

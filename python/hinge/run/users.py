@@ -1,6 +1,6 @@
-"""The users of the rooms: this process's user, and subordinate users if the system provides some (subuid(5)).
+"""The users in a run's rooms: this process's user, and subordinate users if the system provides some (subuid(5)).
 
-Servers then find the groups to which they assign files, such as the group of terminals."""
+With subordinate users, servers find the groups to which they assign files, such as the group of terminals."""
 
 from __future__ import annotations
 
@@ -27,7 +27,8 @@ class Subordinate(NamedTuple):
 
 
 def subordinate(path: str, user: int) -> Optional[Subordinate]:
-    """Returns the first range for a user in a file, which lists names or numbers."""
+    """Returns the first range of subordinate users for a user in a file such as /etc/subuid; None if there is no range. The file
+    contains the user's name or number."""
     names = {str(user)}
     with suppress(KeyError):
         names.add(pwd.getpwuid(user).pw_name)
@@ -40,16 +41,17 @@ def subordinate(path: str, user: int) -> Optional[Subordinate]:
 
 
 def mapping(own: int, span: Subordinate) -> list[str]:
-    """Returns the arguments for newuidmap: the user keeps its number, and all other users, from 0 on, are subordinate."""
+    """Returns arguments for newuidmap or newgidmap: the user (or group) keeps the number `own`, and the subordinate users get the
+    other numbers from 0 on."""
     below = min(own, span.length)
     parts = [(0, span.first, below), (own, own, 1), (own + 1, span.first + below, span.length - below if own < span.length else 0)]
     return [str(number) for part in parts if part[2] for number in part]
 
 
 class Users:
-    """Maps users. Create it before the process leaves the system's users.
+    """Maps the users of a new user namespace. Create this object before this process leaves the system's users.
 
-    A child process stays behind, and maps the new namespace's users on request."""
+    A child process stays there, and maps the new namespace's users on request."""
 
     def __init__(self) -> None:
         self.child, self.own = 0, {"uid": os.geteuid(), "gid": os.getegid()}
@@ -64,12 +66,13 @@ class Users:
         os.close(read_end)
 
     def map_when_told(self, read_end: int, programs: list[list[str]]) -> int:
+        """Runs the programs that map users and groups, after a byte arrives. Returns 0, or 1 if no byte arrives."""
         os.close(self.write_end)
         silence(2)  # where one of them refuses, the user is alone there
         return 0 if os.read(read_end, 1) and [asked(words) for words in programs] else 1
 
     def map(self, is_new: bool) -> None:
-        """Maps the users of a new namespace; without subordinate users, only this user."""
+        """Maps the users if there is a new user namespace; without subordinate users, only this user."""
         has_others = False
         if self.child:
             if is_new:
@@ -80,6 +83,7 @@ class Users:
             self.map_own()
 
     def map_own(self) -> None:
+        """Maps only this process's user and group. PermissionError: the system refuses."""
         write("/proc/self/setgroups", "deny")
         for kind, own in self.own.items():
             try:

@@ -1,4 +1,5 @@
-"""The verdict on a run: its links, late or reordered acts on hosts, programs that waited for a processor, and a suspended machine."""
+"""The verdict on a run: its links, late or reordered acts on hosts, programs that waited for a processor, and a suspended
+machine."""
 
 from __future__ import annotations
 
@@ -23,7 +24,8 @@ PART = 0.01  # of the time: less is told of no packet either
 
 
 def late_acts(acts: Sequence[Done], main: Optional[int], limit: float) -> Iterator[str]:
-    """Yields the acts that came later than the limit (ms) after their requested moments, or in another order."""
+    """Yields a remark if acts on hosts came later than `limit` ms after their requested moments, and a remark for each act that
+    came in another order than requested. `main` is the ns at which the main command started."""
     late = [((one.moment - one.act.moment.ns - (main or 0) * one.act.moment.of_main) / 1e6, one.act) for one in acts]
     over = [one for one in late if one[0] > limit]
     if over:
@@ -37,8 +39,8 @@ def late_acts(acts: Sequence[Done], main: Optional[int], limit: float) -> Iterat
 
 
 def some(kind: str, texts: Iterable[str]) -> Iterator[str]:
-    """Yields one line with the first few texts (MOST_TOLD) and the number of further texts, or no line if there are no texts. The
-    further texts are counted without being kept in memory."""
+    """Yields a line with the first MOST_TOLD texts and the number of further texts; yields nothing if there are no texts. The
+    further texts are counted, and not kept in memory."""
     rest = iter(texts)
     if first := [*islice(rest, MOST_TOLD)]:
         more = sum(1 for _ in rest)
@@ -46,7 +48,7 @@ def some(kind: str, texts: Iterable[str]) -> Iterator[str]:
 
 
 class Awaited(NamedTuple):
-    """The requests in a run's words."""
+    """Lists what a run's words request, for a comparison with the run's counts."""
 
     moments: Sequence[tuple[int, str]] = ()  # ns, and what is to happen then
     packets: Sequence[tuple[int, int]] = ()  # that are chosen, each with its way before it
@@ -56,7 +58,7 @@ class Awaited(NamedTuple):
     faults: Sequence[tuple[str, bool]] = ()  # of hosts on which nothing ran, and whether a seed drew each
 
     def missed(self, counts: Counts, names: Sequence[str]) -> Iterator[str]:
-        """Returns the requested events that never happened, or had no effect."""
+        """Yields lines about requested events and packets that never came, and about events without effect that no seed drew."""
         late = (f"`{text}`" for moment, text in self.moments if moment > counts["moment"])
         packets = (f"packet {packet} of {names[way]}" for way, packet in self.packets if packet > counts.ways[way]["came"])
         yield from some("not yet when the run ended", late)
@@ -65,7 +67,8 @@ class Awaited(NamedTuple):
         yield from some(NOTHING_RAN, (words for words, is_drawn in self.faults if not is_drawn))
 
     def remarks(self, counts: Counts) -> Iterator[str]:
-        """Returns remarks that aren't mistakes: drawn faults without effect, and rules and queues that no packet reached."""
+        """Yields remarks on what isn't a mistake: events without effect that a seed drew, rules that no packet matched, and queues
+        that no rule names."""
         yield from some("changed nothing", (f"`{one}`, beside `{other}`" for one, other in self.idle if one.is_drawn))
         yield from some(NOTHING_RAN, (words for words, is_drawn in self.faults if is_drawn))
         met = {text for place, text in enumerate(self.rules) if counts.has_met(place)}
@@ -74,7 +77,7 @@ class Awaited(NamedTuple):
 
 
 class Verdict(NamedTuple):
-    """The reasons why a run is void, and the warnings without a limit."""
+    """Holds the reasons why a run is void (to be repeated), and the warnings."""
 
     void: list[str]
     cautions: list[str]
@@ -90,8 +93,9 @@ def verdict(
     awaited: Awaited = Awaited(),
     may_be_late: bool = True,
 ) -> Verdict:
-    """Applies the limit from --late in ms, if any; in simulated time nothing can be late. `others` returns remarks on lateness
-    above a limit in ms that links didn't cause."""
+    """Returns the verdict on a run, from the links' counts and the numbers of packets that the system dropped before each way.
+    `limit` is from --late in ms; without a limit, late packets only cause warnings. `others` returns remarks on lateness above a
+    limit in ms that the links didn't cause. `may_be_late` is false if late packets say nothing about the machine."""
     missed = [*awaited.missed(counts, names)]
     more = others(WITHOUT_LIMIT if limit is None else limit)
     remarks = [f"CAUTION, {line}" for line in awaited.remarks(counts)]
@@ -105,7 +109,7 @@ def verdict(
 
 
 class Waits:
-    """How long the hosts' programs waited for a processor, read once a second."""
+    """Holds how long the hosts' programs waited for a processor; the caller reads these times once a second."""
 
     def __init__(self) -> None:
         self.begun = self.looked = time.monotonic()
@@ -114,10 +118,12 @@ class Waits:
         self.most: dict[str, float] = {}  # ms of a second
 
     def left(self) -> float:
+        """Returns the seconds until the next reading."""
         return max(0.0, self.looked + 1 - time.monotonic())
 
     def look(self, cgroups: dict[str, Cgroup], processes: dict[str, int]) -> None:
-        """Reads the waiting times. For a host without a cgroup, the wait is that of the first thread in the host's command."""
+        """Reads the waiting times of all hosts. If a host's cgroup doesn't report the time, only the first thread of the host's
+        command counts."""
         lasting = max(1.0, time.monotonic() - self.looked)
         self.looked = time.monotonic()
         for host in [*cgroups, *(name for name in processes if name not in cgroups)]:
@@ -125,7 +131,8 @@ class Waits:
             self.add(host, waited_of(processes[host]) if total is None and host in processes else total, lasting)
 
     def add(self, host: str, total: Optional[float], lasting: float) -> None:
-        """Adds the total waiting time of a host's programs in ms. A smaller total follows a restart."""
+        """Adds the growth of a host's waiting time; `total` is the time in ms since the programs' start, and `lasting` the seconds
+        since the last reading. A smaller total than before shows that the programs restarted."""
         if total is not None:
             more = total - self.before.get(host, 0.0)
             self.before[host] = total
@@ -134,10 +141,12 @@ class Waits:
             self.most[host] = max(self.most.get(host, 0.0), more / lasting)
 
     def record(self) -> dict[str, float]:
+        """Returns each host's waiting time in ms."""
         return {host: round(ms, 3) for host, ms in self.totals.items()}
 
     def over(self, limit: float) -> list[str]:
-        """Returns the hosts that waited for more than a share of the time, and in some second for more than the limit in ms."""
+        """Returns lines about the hosts whose programs waited for more than a share of the time (PART), and in some second for more
+        than `limit` ms."""
         ran = time.monotonic() - self.begun
         over = {host: ms for host, ms in self.totals.items() if ms > PART * ran * 1e3 and self.most[host] > limit}
         hosts = sorted(over, key=lambda host: (-over[host], host))
@@ -149,6 +158,7 @@ class Waits:
 
 
 def waited_of(process: int) -> Optional[float]:
+    """Returns the ms for which a process's first thread waited for a processor, or None if the system doesn't report the time."""
     try:
         return int(read_text(f"/proc/{process}/schedstat").split()[1]) / 1e6
     except (OSError, IndexError, ValueError):

@@ -33,7 +33,8 @@ class Wrong(Fault):
 
 @contextmanager
 def placed(place: str) -> Iterator[None]:
-    """Adds its place to the error of a wrong word, unless the error names the place."""
+    """Puts a place, such as a file and its line, before the message of a Wrong from the block, unless the message begins with the
+    place."""
     try:
         yield
     except Wrong as wrong:
@@ -42,7 +43,8 @@ def placed(place: str) -> Iterator[None]:
 
 @contextmanager
 def read_as_change(line: str) -> Iterator[None]:
-    """Replaces a timeline's error with the line to write, if known."""
+    """Replaces the message of a Wrong from the block by the line of a timeline that the user probably meant, if there is such a
+    line."""
     from hinge.events.link_words import link_event  # which needs this module
 
     try:
@@ -57,8 +59,8 @@ def read_as_change(line: str) -> Iterator[None]:
 
 
 def duration(text: str, option: str = "") -> int:
-    """Returns a time such as 5s, 600ms or 2min in ns; the default unit is seconds. Wrong: no time, or too long; the message
-    names `option`."""
+    """Returns the ns of a time such as 5s, 600ms or 2min; a number without a unit means seconds. Wrong: the text isn't a time, or
+    the time is above 2^62 ns; `option` begins the message."""
     match = TIME.fullmatch(text)
     place = f"{option} {text}".lstrip()
     if not match:
@@ -71,7 +73,7 @@ def duration(text: str, option: str = "") -> int:
 
 
 def length_of(text: str, option: str = "") -> int:
-    """Returns the ns of a length. Wrong: the text is no time, or 0."""
+    """Returns the ns of a length of time. Wrong: the text isn't a time, or the time is 0 ns; `option` begins the message."""
     result = duration(text, option)
     if not result:
         raise Wrong(f"{f'{option} {text}'.lstrip()}: nothing happens in no time; write a duration above 0 (example: 600ms)")
@@ -79,24 +81,25 @@ def length_of(text: str, option: str = "") -> int:
 
 
 def bytes_of_mtu(text: str) -> int:
+    """Returns the bytes of an MTU. Wrong: the text isn't a number in the range."""
     if not (text.isascii() and text.isdecimal() and MTU_LEAST <= int(text) <= MTU_MOST):
         raise Wrong(f"{text!r} isn't a number from {MTU_LEAST} to {MTU_MOST}")
     return int(text)
 
 
 def bare(line: str) -> str:
-    """Returns a line without its comment, with single blanks."""
+    """Returns a line without its comment, with single blanks between words."""
     return " ".join(line.partition("#")[0].split())
 
 
 def first_word(text: str) -> tuple[str, str]:
-    """Returns the first word, or an empty text, and the rest."""
+    """Returns a text's first word and the rest; both are empty if the text is empty."""
     word, rest = (*text.split(None, 1), "", "")[:2]
     return word, rest.strip()
 
 
 def read_lines(path: str, lines: Optional[int] = MOST_LINES) -> Iterator[str]:
-    """Yields the lines of a text file. Wrong: the file can't be read, or has too many lines."""
+    """Yields the lines of a text file. Wrong: the file can't be read, or has more than `lines` lines."""
     try:
         yield from lines_in(path, LONGEST, lines, said=lines and MOST_SAID)
     except Fault as fault:
@@ -110,7 +113,7 @@ read_once = lru_cache(KEPT)(read_words)
 
 @lru_cache(KEPT)
 def read_alone(word: str) -> dict[str, str]:
-    """Returns the options of a word that alone describes a link everywhere, such as 10Mbit/s or 20ms; an empty dict for other
+    """Returns the options of a word that describes a link without another word, such as 10Mbit/s or 20ms; an empty dict for other
     words."""
     try:
         return read_words(word, Place.CHANGE).options
@@ -119,8 +122,8 @@ def read_alone(word: str) -> dict[str, str]:
 
 
 def of_such_words(text: str) -> Optional[LinkWords]:
-    """Returns the link if each word describes a property by itself, without repetitions. Long files consist mostly of such links,
-    and seldom repeat a text."""
+    """Returns the link if each word describes a property by itself and no property is repeated; otherwise None. This is fast: long
+    files consist mostly of such links, and seldom repeat a text."""
     options: dict[str, str] = {}
     for word in text.split(" "):
         more = read_alone(word)
@@ -131,8 +134,8 @@ def of_such_words(text: str) -> Optional[LinkWords]:
 
 
 def link_of(text: str, option: str, place: Place = Place.CHANGE) -> LinkWords:
-    """Returns the link for `10Mbit/s 20ms queue 100 loss 1%`. Wrong: the text is no link; the message names `option` and
-    corrects the whole text."""
+    """Returns the link for words such as `10Mbit/s 20ms queue 100 loss 1%`. Wrong: the text isn't a link; the message begins with
+    `option`, and contains the corrected text, if possible."""
     try:
         return of_such_words(text) or read_once(text, place)
     except WordError as wrong:
@@ -141,20 +144,21 @@ def link_of(text: str, option: str, place: Place = Place.CHANGE) -> LinkWords:
 
 
 class Target(NamedTuple):
-    """The target of a line: `pipe` or `queue`, and its number, or 0 without one."""
+    """Describes what a line configures: `pipe` or `queue`, and the number, which is 0 if the line has no number."""
 
     kind: str
     number: int
 
 
 def target_of(line: str) -> Target:
+    """Returns what a line configures; for lines of other kinds, the first word and number."""
     words = [word for word in line.split(None, 4)[:4] if word != "ipfw"]
     numbers = [word for word in words[1:3] if is_number(word)]
     return Target(words[0] if words else "", int(numbers[0]) if numbers else 0)
 
 
 def renumbered(line: str, pipe: Callable[[int], int], queue: Callable[[int], int]) -> str:
-    """Replaces a link's pipe numbers 1 and 2, and its queue numbers, with those among all links; returns the line."""
+    """Returns a configuration line with other numbers, which the functions `pipe` and `queue` return for the line's own numbers."""
     words = bare(line).split()
     words = words[words[:1] == ["ipfw"] :]
     kinds = {"pipe": pipe, "queue": queue}
@@ -167,12 +171,14 @@ def renumbered(line: str, pipe: Callable[[int], int], queue: Callable[[int], int
 
 
 def of_link(line: str, link: int) -> str:
-    """Translates a line from pipes 1 and 2 of a link, counted from 0, to the plan's pipes; returns the line."""
+    """Returns a configuration line of a link, which is counted from 0, with the plan's pipes in place of the link's pipes 1 and
+    2."""
     return renumbered(line, lambda pipe: pipe + 2 * link * (pipe in (1, 2)), int) if link else line
 
 
 def is_line(text: str) -> bool:
-    """Returns whether the text is a configuration line; `queue 7` alone is a link's words."""
+    """Returns whether the text is a configuration line. `queue 7` without further words isn't, since these words describe a
+    link."""
     if not text.startswith(LINES):
         return False
     first, *words = text.split(None, 3)[:3]
@@ -180,6 +186,7 @@ def is_line(text: str) -> bool:
 
 
 def configures(line: str) -> bool:
+    """Returns whether a configuration line contains the word `config`."""
     return "config" in line.split()[:4]
 
 
