@@ -17,8 +17,8 @@ from hinge.run.rtnetlink import Request, ask_kernel, ask_many, index_of, packed
 from hinge.run.steps import kept_as_step
 from hinge.run.system import Missing, try_to_write
 
-NAME = "link"  # of the tun interface in each namespace
-QUEUE = 10000  # packets that wait for the host; unread.h has the same
+NAME = "link"  # the name of the tun interface in each namespace
+QUEUE = 10000  # the most packets that wait for the host program; unread.h contains the same number
 SETLINK, NEWADDR, NEWROUTE = 16, 20, 24  # RTM_NEWLINK, RTM_NEWADDR, RTM_NEWROUTE
 HARDWARE_ADDRESS, MTU, QUEUE_LENGTH = 1, 4, 13  # IFLA_ADDRESS, IFLA_MTU, IFLA_TXQLEN
 UP, MULTICAST = 1, 0x1000  # IFF_UP, IFF_MULTICAST
@@ -40,11 +40,16 @@ TUNSETOFFLOAD, LEFT_TO_A_CARD = 0x400454D0, 7  # TUN_F_CSUM | TUN_F_TSO4 | TUN_F
 TUNSETPERSIST = 0x400454CB
 OWN_NETWORK = "/proc/thread-self/net/"
 DROPPED_OUT = 11  # the column of /proc/net/dev
-OF_IPV4 = ("Ip:", "IpExt:")  # of the lines of /proc/net/snmp and netstat
-# Of what leads nowhere, and of what is too long for the next link; not of what came to a host that forwards nothing (InAddrErrors).
+OF_IPV4 = ("Ip:", "IpExt:")  # the first words of the lines of IPv4 in /proc/net/snmp and netstat
+# The counters of packets without a route, and of packets that are too long for the next link. InAddrErrors isn't one of them: this
+# counts packets that came to a host which forwards nothing.
 UNFORWARDED = ("IpInNoRoutes", "IpFragFails", "Ip6InNoRoutes", "Ip6InTooBigErrors")
-LISTENS = (("tcp", "0A"), ("tcp6", "0A"), ("udp", "07"), ("udp6", "07"))  # in /proc/net, and the state there
-QUIET = (("accept_dad", "0"), ("accept_ra", "0"), ("router_solicitations", "0"))  # of IPv6
+LISTENS = (("tcp", "0A"), ("tcp6", "0A"), ("udp", "07"), ("udp6", "07"))  # files in /proc/net, and a listening socket's state there
+QUIET = (
+    ("accept_dad", "0"),
+    ("accept_ra", "0"),
+    ("router_solicitations", "0"),
+)  # settings of IPv6 for an interface that sends nothing
 # IFLA_AF_SPEC, IFLA_INET_CONF, IFLA_INET6_ADDR_GEN_MODE, IN6_ADDR_GEN_MODE_NONE
 OF_FAMILIES = 26
 INET_CONF = 1
@@ -69,7 +74,7 @@ def set_up(name: str, mask: int = UP, attributes: tuple[tuple[int, int], ...] = 
 
 def know_groups(name: str, does: bool = True) -> None:
     """Turns multicast on an interface on or off."""
-    change(name, MULTICAST * does, MULTICAST, ())
+    change(name, MULTICAST if does else 0, MULTICAST, ())
 
 
 def of_family(family: int, settings: bytes) -> list[tuple[int, bytes]]:
@@ -123,9 +128,11 @@ def around_address(
         (OUT_BY, struct.pack("I", index)),
         (PREFERRED, family_and_bytes(source)[1]),
         (ROUTE_TABLE, struct.pack("I", table)),
-        *([] if metric is None else [(METRIC, struct.pack("I", metric))]),
-        *([(GATEWAY, family_and_bytes(gateway)[1])] if gateway else []),
     ]
+    if metric is not None:
+        attributes.append((METRIC, struct.pack("I", metric)))
+    if gateway:
+        attributes.append((GATEWAY, family_and_bytes(gateway)[1]))
     return before, packed(attributes)
 
 
@@ -143,8 +150,10 @@ def interface_route(
 
     `source` is the source address for packets from sockets without an address. The route with the lowest metric wins."""
     family, data = family_and_bytes(text)
-    before, behind = around_address(family, index, source, 8 * len(data) if bits is None else bits, table, metric, gateway)
-    return Request(NEWROUTE, before + data + behind, may_fail)
+    if bits is None:
+        bits = 8 * len(data)
+    before, after = around_address(family, index, source, bits, table, metric, gateway)
+    return Request(NEWROUTE, before + data + after, may_fail)
 
 
 def add_interface_route(
@@ -157,12 +166,12 @@ def add_interface_route(
 def announce(name: str, text: str) -> None:
     """Announces an IPv6 address of another interface to the neighbours on the interface `name`, with a neighbour advertisement."""
     index = index_of(name)
-    with socket.socket(socket.AF_INET6, socket.SOCK_RAW, socket.IPPROTO_ICMPV6) as teller:
-        teller.setsockopt(socket.IPPROTO_IPV6, FREEBIND, 1)
-        teller.setsockopt(socket.IPPROTO_IPV6, socket.IPV6_MULTICAST_HOPS, 255)
-        teller.bind((text, 0))
+    with socket.socket(socket.AF_INET6, socket.SOCK_RAW, socket.IPPROTO_ICMPV6) as raw:
+        raw.setsockopt(socket.IPPROTO_IPV6, FREEBIND, 1)
+        raw.setsockopt(socket.IPPROTO_IPV6, socket.IPV6_MULTICAST_HOPS, 255)
+        raw.bind((text, 0))
         head = struct.pack("!BBHI", ADVERTISEMENT, 0, 0, OVERRIDE)
-        teller.sendto(head + socket.inet_pton(socket.AF_INET6, text), ("ff02::1", 0, 0, index))
+        raw.sendto(head + socket.inet_pton(socket.AF_INET6, text), ("ff02::1", 0, 0, index))
 
 
 def leads_out_in_ipv6() -> bool:
@@ -185,8 +194,8 @@ def open_tun(name: str, flags: int, offload: int, persists: bool) -> int:
         raise Missing(f"/dev/net/tun: {error.strerror}: {advice}; or add --simulated, which needs none") from None
     fcntl.ioctl(descriptor, TUNSETIFF, struct.pack("16sH22x", name.encode(), flags))
     fcntl.ioctl(descriptor, TUNSETOFFLOAD, offload)
-    # One that persists goes with its namespace: the kernel takes all of one away at once, and each closed one by
-    # itself.
+    # An interface that persists ends with its namespace. The kernel removes all interfaces of a namespace at once, which is faster
+    # than to remove each interface when its descriptor is closed.
     fcntl.ioctl(descriptor, TUNSETPERSIST, int(persists))
     return descriptor
 
@@ -211,7 +220,7 @@ def add_tun(
 def all_dropped(place: str = OWN_NETWORK) -> dict[str, int]:
     """Returns for each interface of a namespace how many packets the system dropped instead of sending, since the queue to the link
     was full. `place` is the namespace's folder in /proc."""
-    rows = [line.partition(":") for line in read_system(place + "dev").splitlines()[2:]]
+    rows = [line.partition(":") for line in read_system(place + "dev").splitlines()[2:]]  # without the two lines of the head
     return {name.strip(): int(counts.split()[DROPPED_OUT]) for name, _, counts in rows}
 
 
@@ -222,10 +231,12 @@ def unforwarded(place: str = OWN_NETWORK) -> dict[str, int]:
     for name in texts:
         with suppress(OSError):  # a system without IPv6
             texts[name] = read_system(place + name)
+    counts = dict(line.split() for line in texts["snmp6"].splitlines())
     rows = [line.split() for line in (texts["snmp"] + texts["netstat"]).splitlines()]
-    four = [pair for names, counts in zip(rows[::2], rows[1::2]) if names[0] in OF_IPV4 for pair in zip(names[1:], counts[1:])]
-    counts = {f"Ip{key}": count for key, count in four} | dict(line.split() for line in texts["snmp6"].splitlines())
-    return {key: int(counts[key]) for key in UNFORWARDED if int(counts.get(key, 0))}
+    for names, numbers in zip(rows[::2], rows[1::2]):  # a line with names precedes each line with numbers
+        if names[0] in OF_IPV4:
+            counts.update((f"Ip{name}", number) for name, number in zip(names[1:], numbers[1:]))
+    return {name: int(counts[name]) for name in UNFORWARDED if int(counts.get(name, 0))}
 
 
 def dropped(name: str = NAME) -> int:

@@ -27,14 +27,17 @@ from hinge.run.system import setting, try_to_write, unmount, unshare, write
 from hinge.run.two_hosts import Ends
 from hinge.run.users import Users, make_terminals
 
-PAUSES = "/proc/pauses"  # there is one in a simulated machine alone
-ELF32 = b"\x7fELF\x01"  # the front of a program
+PAUSES = "/proc/pauses"  # this file exists only in a simulated machine
+ELF32 = b"\x7fELF\x01"  # the first bytes of a 32-bit program
 ORDER_OF_ADDRESSES = "/etc/gai.conf"
-DEFAULT_ORDER = "".join(
-    f"precedence {network} {place}\n"
-    for network, place in (("::1/128", 50), ("::/0", 40), ("2002::/16", 30), ("::/96", 20), ("::ffff:0:0/96", 10))
-)  # of the C library, which forgets it where the file has any
-OWN_LAST = "precedence fd08::/15 1\n"
+# The C library's own order, which the library no longer applies once the file contains a line `precedence`.
+DEFAULT_ORDER = """precedence ::1/128 50
+precedence ::/0 40
+precedence 2002::/16 30
+precedence ::/96 20
+precedence ::ffff:0:0/96 10
+"""
+OWN_LAST = "precedence fd08::/15 1\n"  # the rooms' IPv6 addresses come last
 
 
 def is_chrooted() -> bool:
@@ -94,10 +97,10 @@ def leave_the_system() -> bool:
     the system refuses namespaces, or has no /proc."""
     users = Users()
     try:
-        own = unshared()
+        own_users = unshared()
     except OSError as error:
         raise Missing(f"no namespaces ({error.strerror}): {advice(error.errno)}; {INSTEAD}") from None
-    users.map(own)
+    users.map(own_users)
     try:
         keep_mounts_to_itself()
     except OSError as error:
@@ -105,7 +108,7 @@ def leave_the_system() -> bool:
             f"{error.filename or 'mounts'}: {error.strerror}: in a chroot mount /proc there first: mount -t proc proc /proc"
         ) from None
     System.is_left = True
-    return own
+    return own_users
 
 
 @kept_as_step
@@ -158,9 +161,10 @@ def prefer_ipv4() -> bool:
     """Makes the C library return IPv4 addresses first, since some programs don't listen on IPv6. Returns whether the file with the
     order of addresses could be replaced."""
     try:
-        rules = read_system(at_root(ORDER_OF_ADDRESSES))
-        is_default = not any(line.split()[:1] == ["precedence"] for line in rules.splitlines())
-        put_over(ORDER_OF_ADDRESSES, rules + "\n" + DEFAULT_ORDER * is_default + OWN_LAST)
+        rules = read_system(at_root(ORDER_OF_ADDRESSES)) + "\n"
+        if not any(line.split()[:1] == ["precedence"] for line in rules.splitlines()):
+            rules += DEFAULT_ORDER
+        put_over(ORDER_OF_ADDRESSES, rules + OWN_LAST)
         return True
     except OSError:
         return False
@@ -169,16 +173,15 @@ def prefer_ipv4() -> bool:
 def add_names(names: str, of_six: str, example: str, address: str) -> None:
     """Makes hosts known by name in these namespaces: adds the lines `names`, and if the C library prefers IPv4 the lines `of_six`
     with IPv6 addresses, to /etc/hosts. If that fails, prints advice with the host name `example` and its address."""
-    names += of_six * prefer_ipv4()
+    if prefer_ipv4():
+        names += of_six
+    with suppress(OSError):  # there is no such file, or this user can't read it
+        names += read_system(at_root("/etc/hosts"))
     try:
-        all_names = names + read_system(at_root("/etc/hosts"))
-    except OSError:
-        all_names = names
-    try:
-        put_over("/etc/hosts", all_names)
+        put_over("/etc/hosts", names)
     except OSError as error:
-        product = "make an empty one, or take" if error.errno == errno.ENOENT else "take"
-        say(f"/etc/hosts: {error.strerror}: the name `{example}` isn't known: {product} {address}")
+        advice = "make an empty one, or take" if error.errno == errno.ENOENT else "take"
+        say(f"/etc/hosts: {error.strerror}: the name `{example}` isn't known: {advice} {address}")
 
 
 def why_not(name: str, error: OSError) -> str:
@@ -199,7 +202,7 @@ def start(words: Sequence[str], mask: Mask, enter_room: Callable[[], None], own_
         enter_room()
         if own_users and os.geteuid() != 0:
             keep_network_rights()
-        for number in (signal.SIGPIPE, signal.SIGXFSZ, signal.SIGINT):  # of which Python ignores two
+        for number in (signal.SIGPIPE, signal.SIGXFSZ, signal.SIGINT):  # Python ignores the first two, and handles the third
             signal.signal(number, signal.SIG_DFL)
         signal.pthread_sigmask(signal.SIG_SETMASK, mask)
         try_to_write(PAUSES, "1")
@@ -212,12 +215,15 @@ class Rooms:
     """Holds the rooms of the client and the server. Create this object in the first process, which stays in the server's room."""
 
     def __init__(self, mtu: int, own_users: bool, ends: Ends) -> None:
-        self.own_users, self.ends = own_users, ends
+        self.own_users = own_users
+        self.ends = ends
         see_own_processes()
-        self.client, client = furnish(), add_tun(ends.client, ends.client6, mtu, bits=ends.bits)
+        self.client = furnish()  # in this process's network
+        client_interface = add_tun(ends.client, ends.client6, mtu, bits=ends.bits)
         unshare(NEWNET)
-        self.server, server = furnish(), add_tun(ends.server, ends.server6, mtu, bits=ends.bits)
-        self.interfaces = (client, server)
+        self.server = furnish()  # in the new network
+        server_interface = add_tun(ends.server, ends.server6, mtu, bits=ends.bits)
+        self.interfaces = (client_interface, server_interface)
         add_names(ends.names(), ends.names_of_six(), "server", ends.server)
 
     def lead_out(self, ipv6: bool) -> None:
@@ -229,11 +235,11 @@ class Rooms:
 
     def dropped(self) -> list[int]:
         """Returns how many packets the system dropped before the link, for each way (one direction of the link)."""
-        items = []
+        counts = []
         for room in (self.client, self.server):
             enter(room)
-            items.append(dropped())
-        return items
+            counts.append(dropped())
+        return counts
 
     def start(self, room: int, words: Sequence[str], mask: Mask, cgroup: Optional[Cgroup], is_behind: bool = False) -> int:
         """Starts a command in a room and a cgroup; returns its process. With `is_behind`, the command runs in the background: its

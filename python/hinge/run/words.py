@@ -3,7 +3,7 @@
 from __future__ import annotations
 
 import re
-from contextlib import contextmanager, suppress
+from contextlib import contextmanager
 from functools import lru_cache
 from typing import Callable, Iterator, NamedTuple, Optional
 
@@ -14,12 +14,12 @@ from hinge.events.forms import CHANGES, line_meant
 from hingetulip_words.link import Extra, LinkWords, Place, WordError, corrected, read_words
 
 WAYS = {"up": 0, "down": 1}
-LINES = ("pipe", "queue", "ipfw")  # what a configuration line begins with
+LINES = ("pipe", "queue", "ipfw")  # the first words of configuration lines
 SECOND = 1_000_000_000  # ns
-LONGEST = 1 << 16  # letters of a line of a file
-LAST_MOMENT = 2**62  # ns, of the links
+LONGEST = 1 << 16  # the most letters in a line of a file
+LAST_MOMENT = 2**62  # ns, on the links' clock
 MTU_LEAST, MTU_MOST = 576, 65535  # bytes
-KEPT = 1 << 12  # texts whose meaning is remembered, since long files say the same again and again
+KEPT = 1 << 12  # how many texts' meanings a cache keeps, since long files repeat the same texts
 SCALE = {"ns": 1, "us": 10**3, "ms": 10**6, "s": SECOND, "min": 60 * SECOND, "h": 3600 * SECOND}
 TIME = re.compile(rf"(\d+(?:\.\d+)?)({'|'.join(SCALE)})?", re.ASCII)
 NO_EXTRA = Extra()
@@ -50,11 +50,15 @@ def read_as_change(line: str) -> Iterator[None]:
     try:
         yield
     except Wrong:
-        (word, text), may_be = first_word(meant := line_meant(line, CHANGES)), False
-        with suppress(Wrong):
-            may_be = duration(word) >= 0 and bool(link_event(text, word))
-        if may_be:
-            raise Wrong(f"{line!r}: not a change; write {meant}") from None
+        advice = line_meant(line, CHANGES)
+        word, text = first_word(advice)
+        try:
+            duration(word)
+            link_event(text, word)
+        except Wrong:
+            advice = ""
+        if advice:
+            raise Wrong(f"{line!r}: not a change; write {advice}") from None
         raise
 
 
@@ -76,7 +80,8 @@ def length_of(text: str, option: str = "") -> int:
     """Returns the ns of a length of time. Wrong: the text isn't a time, or the time is 0 ns; `option` begins the message."""
     result = duration(text, option)
     if not result:
-        raise Wrong(f"{f'{option} {text}'.lstrip()}: nothing happens in no time; write a duration above 0 (example: 600ms)")
+        place = f"{option} {text}".lstrip()
+        raise Wrong(f"{place}: nothing happens in no time; write a duration above 0 (example: 600ms)")
     return result
 
 
@@ -94,7 +99,9 @@ def bare(line: str) -> str:
 
 def first_word(text: str) -> tuple[str, str]:
     """Returns a text's first word and the rest; both are empty if the text is empty."""
-    word, rest = (*text.split(None, 1), "", "")[:2]
+    words = text.split(None, 1)
+    word = words[0] if words else ""
+    rest = words[1] if len(words) > 1 else ""
     return word, rest.strip()
 
 
@@ -126,10 +133,10 @@ def of_such_words(text: str) -> Optional[LinkWords]:
     files consist mostly of such links, and seldom repeat a text."""
     options: dict[str, str] = {}
     for word in text.split(" "):
-        more = read_alone(word)
-        if not more or more.keys() & options:
+        word_options = read_alone(word)
+        if not word_options or word_options.keys() & options:
             return None
-        options.update(more)
+        options.update(word_options)
     return LinkWords(options, NO_EXTRA)
 
 
@@ -139,8 +146,11 @@ def link_of(text: str, option: str, place: Place = Place.CHANGE) -> LinkWords:
     try:
         return of_such_words(text) or read_once(text, place)
     except WordError as wrong:
-        whole = corrected(text, place)
-        raise Wrong(f"{option}: {wrong}" + (f"; in full: '{whole}'" if whole not in (None, wrong.right()) else "")) from None
+        message = f"{option}: {wrong}"
+        corrected_text = corrected(text, place)
+        if corrected_text not in (None, wrong.right()):
+            message += f"; in full: '{corrected_text}'"
+        raise Wrong(message) from None
 
 
 class Target(NamedTuple):
@@ -153,27 +163,34 @@ class Target(NamedTuple):
 def target_of(line: str) -> Target:
     """Returns what a line configures; for lines of other kinds, the first word and number."""
     words = [word for word in line.split(None, 4)[:4] if word != "ipfw"]
-    numbers = [word for word in words[1:3] if is_number(word)]
-    return Target(words[0] if words else "", int(numbers[0]) if numbers else 0)
+    kind = words[0] if words else ""
+    numbers = [int(word) for word in words[1:3] if is_number(word)]
+    return Target(kind, numbers[0] if numbers else 0)
 
 
 def renumbered(line: str, pipe: Callable[[int], int], queue: Callable[[int], int]) -> str:
     """Returns a configuration line with other numbers, which the functions `pipe` and `queue` return for the line's own numbers."""
     words = bare(line).split()
-    words = words[words[:1] == ["ipfw"] :]
-    kinds = {"pipe": pipe, "queue": queue}
+    if words[:1] == ["ipfw"]:
+        del words[0]
+    functions = {"pipe": pipe, "queue": queue}
     for at, word in enumerate(words[:-1]):
-        place = at + 1 + (words[at + 1] == "delete" and at + 2 < len(words))
-        is_numbered = at == 0 and word in kinds or word == "pipe" and words[0] == "queue"
+        is_numbered = at == 0 and word in functions or word == "pipe" and words[0] == "queue"
+        place = at + 1
+        if words[place] == "delete" and place + 1 < len(words):
+            place += 1
         if is_numbered and is_number(words[place]):
-            words[place] = str(kinds[word](int(words[place])))
+            words[place] = str(functions[word](int(words[place])))
     return " ".join(words)
 
 
 def of_link(line: str, link: int) -> str:
     """Returns a configuration line of a link, which is counted from 0, with the plan's pipes in place of the link's pipes 1 and
     2."""
-    return renumbered(line, lambda pipe: pipe + 2 * link * (pipe in (1, 2)), int) if link else line
+    if not link:
+        return line
+    pipes = {1: 2 * link + 1, 2: 2 * link + 2}
+    return renumbered(line, lambda pipe: pipes.get(pipe, pipe), int)
 
 
 def is_line(text: str) -> bool:
