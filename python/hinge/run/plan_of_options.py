@@ -10,13 +10,14 @@ from typing import Iterable, Iterator, Optional, Sequence
 from hinge.run.plan import Plan
 from hinge.run.settings import LinkOptions, LiveOptions
 from hinge.run.transcripts import refuse_lost
-from hinge.run.words import WAYS, Target, Wrong, bare, duration, link_of, read_lines, target_of
+from hinge.run.words import Target, Wrong, bare, duration, link_of, read_lines, target_of
 from hingetulip_words.link import NO_WORDS, LinkWords, Place
 from hingetulip_words.presets import Preset, preset
 
-BIN_LEAST, TRACE_LASTING = 10**6, "1h"  # ns, and how long traces are begun anew
+BIN_LEAST = 10**6  # ns
+TRACE_LASTING = "1h"  # how long traces are repeated by default
 LINKS = "client > server", "server > client"  # the names of ways 0 and 1 in a file of faults
-Numbered = tuple[int, str]  # a line
+Numbered = tuple[int, str]  # a line's number, and its text
 
 
 def value(line: str, option: str) -> str:
@@ -29,15 +30,22 @@ def idle_queues(plan: Plan) -> Iterator[tuple[int, str]]:
     """Yields each way (one direction of a link) whose pipe has a queue's length but never a bandwidth, so that no packet waits in
     the queue, and the message about this."""
     for way in range(plan.ways):
-        target = Target("pipe", way + 1)
         line = plan.current.get(Target("pipe", way + 1), "")
-        if not value(line, "queue") or any(digit in value(line, "bw") for digit in "123456789"):
-            continue
-        all_changes = [plan.changes, plan.behind_main]
-        is_slowed = any(text.startswith(f"slots {way + 1} ") for text in plan.rest)
-        is_held = any(way + 1 in changes.outages for changes in all_changes)
-        if not (is_slowed or is_held or any(target_of(one.line) == target for changes in all_changes for one in changes.every())):
-            yield way, f"queue {value(line, 'queue')} does nothing, as no packet waits without a bandwidth; write 10Mbit/s beside it"
+        length = value(line, "queue")
+        if length and not may_wait(plan, way, line):
+            yield way, f"queue {length} does nothing, as no packet waits without a bandwidth; write 10Mbit/s beside it"
+
+
+def may_wait(plan: Plan, way: int, line: str) -> bool:
+    """Returns whether packets may wait in the queue of a way's pipe: the pipe's line has a bandwidth, a trace or an outage delays
+    the packets, or a change configures the pipe."""
+    target = Target("pipe", way + 1)
+    if any(digit in value(line, "bw") for digit in "123456789") or any(text.startswith(f"slots {way + 1} ") for text in plan.rest):
+        return True
+    both = (plan.changes, plan.behind_main)
+    if any(target.number in changes.outages for changes in both):
+        return True
+    return any(target_of(change.line) == target for changes in both for change in changes.every())
 
 
 def idle_losses(plan: Plan) -> Iterator[tuple[int, str]]:
@@ -46,15 +54,18 @@ def idle_losses(plan: Plan) -> Iterator[tuple[int, str]]:
     for way, model in plan.decided.items():
         rate = value(plan.current.get(Target("pipe", way + 1), ""), "plr")
         if rate and float(rate) < 1:
-            other = "the faults decide" if model == "faults" else f"{model} decides"
-            yield way, f"the loss rate {rate} does nothing, as {other} about each packet; leave one of them out"
+            cause = "the faults decide" if model == "faults" else f"{model} decides"
+            yield way, f"the loss rate {rate} does nothing, as {cause} about each packet; leave one of them out"
 
 
 def refuse_idle(plan: Plan, places: Sequence[str], is_open: bool) -> None:
     """Checks that the words for each way have an effect. `places` names the place of each way's words, for the message. Wrong: a
     loss rate or a queue has no effect. If `hinge change` can reach the run (`is_open`), a queue may still get a bandwidth."""
-    for way, why in [*idle_losses(plan), *([] if is_open else idle_queues(plan))]:
-        raise Wrong(f"{places[way]}: {why}")
+    messages = [*idle_losses(plan)]
+    if not is_open:
+        messages += idle_queues(plan)
+    for way, message in messages:
+        raise Wrong(f"{places[way]}: {message}")
 
 
 def refuse_idle_options(options: LiveOptions, plan: Plan, draws: bool) -> None:
@@ -64,7 +75,8 @@ def refuse_idle_options(options: LiveOptions, plan: Plan, draws: bool) -> None:
         raise Wrong("--bin does nothing, as the rows of seconds,bit/s are no moments that could be counted; leave it out")
     if options.trace_for and not plan.has_bins:
         raise Wrong("--trace-for does nothing, as no moments are counted over bins; leave it out, or write --bin 100ms beside it")
-    refuse_idle_seed(options.seed is not None and not options.control and not getattr(options, "simulated", False), draws)
+    is_simulated = getattr(options, "simulated", False)
+    refuse_idle_seed(options.seed is not None and not options.control and not is_simulated, draws)
 
 
 def refuse_idle_seed(is_of_link_alone: bool, draws: bool) -> None:
@@ -91,11 +103,11 @@ def own_link(text: str, option: str) -> LinkWords:
 
 def asking(option: str, lines: Iterable[Numbered]) -> Iterator[Numbered]:
     """Returns an option's lines without empty lines and comments. Wrong: no line remains."""
-    result = (line for line in lines if bare(line[1]))
-    first = next(result, None)
+    with_contents = ((number, text) for number, text in lines if bare(text))
+    first = next(with_contents, None)
     if first is None:
         raise Wrong(f"{option}: no line of a configuration (example: pipe 1 config bw 10Mbit/s)")
-    return chain([first], result)
+    return chain([first], with_contents)
 
 
 def numbered_lines(options: LinkOptions) -> Iterator[Numbered]:
@@ -112,8 +124,9 @@ def lines_of(options: LinkOptions, numbered: Iterable[Numbered]) -> list[str]:
     or --down follows these if one of them configures the same pipe, and otherwise precedes these, which may configure the pipe's
     queues. A direction without words has the preset's link, or an open link. Wrong: a link or a line is wrong, or the preset has no
     effect."""
-    path = preset_of(options.preset)
-    inputs, numbers = list[str](), array("I")
+    texts = link_texts(options)
+    inputs = list[str]()
+    numbers = array("I")
     for number, line in numbered:
         inputs.append(line)
         numbers.append(number)
@@ -122,20 +135,30 @@ def lines_of(options: LinkOptions, numbered: Iterable[Numbered]) -> list[str]:
 
         refuse_wrong(inputs, numbers, options.config or "", "--line")
     targets = {target_of(bare(line)) for line in inputs}
-    first, last = list[str](), list[str]()
-    ways = (("up", options.up, path and path.up), ("down", options.down, path and path.down))
-    for number, (option, text, preset_text) in enumerate(ways, 1):
-        is_given = Target("pipe", number) in targets
-        if text is None and not is_given:
+    first = list[str]()
+    last = list[str]()
+    for pipe, (option, text, preset_text) in enumerate(texts, 1):
+        is_configured = Target("pipe", pipe) in targets
+        if text is None and not is_configured:
             text = preset_text
-        link = None if text is None else own_link(text, f"--{option}")
-        if link is not None and (link.options or not is_given):
-            (last if is_given else first).append(link.line(number))
-        elif not is_given:
-            last.append(f"pipe {number} config")
-    if path is not None and {Target("pipe", 1), Target("pipe", 2)} <= targets:
+        link = None if text is None else own_link(text, option)
+        if is_configured:
+            if link is not None and link.options:
+                last.append(link.line(pipe))
+        elif link is not None:
+            first.append(link.line(pipe))
+        else:
+            last.append(f"pipe {pipe} config")
+    if options.preset is not None and {Target("pipe", 1), Target("pipe", 2)} <= targets:
         raise Wrong("--preset does nothing beside lines of the pipes 1 and 2")
     return [*first, *inputs, *last]
+
+
+def link_texts(options: LinkOptions) -> list[tuple[str, Optional[str], Optional[str]]]:
+    """Returns for each way the option for its link, the option's text, and the text of the preset."""
+    links = preset_of(options.preset)
+    up, down = (links.up, links.down) if links else (None, None)
+    return [("--up", options.up, up), ("--down", options.down, down)]
 
 
 def limit_of(late: Optional[str]) -> Optional[float]:
@@ -162,16 +185,13 @@ def plan_of(options: LiveOptions, longest: int) -> Plan:
     refuse_lost("--control", options.control, [*options.files(), options.transcript, options.json])
     plan = Plan(longest)
     plan.is_noted = options.transcript is not None
-    for option in ("up", "down", "preset", "map", "loss"):
-        value = getattr(options, option)
-        for text in [value] if isinstance(value, str) else value or ():
-            plan.note(f"--{option}", 0, text)
+    note_options(plan, options)
     for line in lines_of(options, noted(plan, numbered_lines(options))):
         plan.link(line)
-    preset = preset_of(options.preset)
-    texts = (("up", options.up, preset and preset.up), ("down", options.down, preset and preset.down))
-    for way, (option, text, preset_text) in enumerate(texts):
-        plan.words(way, link_of((preset_text or "") if text is None else text, f"--{option}", Place.KERNELS))
+    for way, (option, text, preset_text) in enumerate(link_texts(options)):
+        if text is None:
+            text = preset_text or ""
+        plan.words(way, link_of(text, option, Place.KERNELS))
     for rule in options.map:
         plan.rule(rule)
     for model in options.loss:
@@ -184,10 +204,19 @@ def plan_of(options: LiveOptions, longest: int) -> Plan:
         if path:
             bin_ns = max(BIN_LEAST, duration(options.bin, "--bin")) if options.bin else None
             plan.trace(way, path, bin_ns, duration(options.trace_for or TRACE_LASTING, "--trace-for"))
-    places = [f"--{name}" if getattr(options, name) is not None else f"pipe {way + 1}" for name, way in WAYS.items()]
+    places = ["pipe 1" if options.up is None else "--up", "pipe 2" if options.down is None else "--down"]
     refuse_idle(plan, places, bool(options.control))
     refuse_idle_options(options, plan, draws(plan))
     return plan
+
+
+def note_options(plan: Plan, options: LiveOptions) -> None:
+    """Notes the texts of the options for the link as remarks in the plan."""
+    texts = [("--up", options.up), ("--down", options.down), ("--preset", options.preset)]
+    texts += [("--map", rule) for rule in options.map]
+    texts += [("--loss", model) for model in options.loss]
+    for option, text in texts:
+        plan.note(option, 0, text or "")
 
 
 def drawn_seed(seed_of_user: Optional[int]) -> int:

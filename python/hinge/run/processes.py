@@ -10,23 +10,23 @@ from typing import Callable, NamedTuple, Optional, Set, Union
 
 Mask = Set[Union[int, signal.Signals]]  # of signals that are blocked
 
-SIGNALLED = 128  # and the signal: the status of a command that one ended
+SIGNALLED = 128  # a command that a signal ended has this status plus the signal's number
 
 
 class Ended(NamedTuple):
     """Describes how a command ended."""
 
     status: int
-    after: float  # s
-    by: str  # itself, SIGTERM or SIGKILL; kill, where an act of a net did
+    after: float  # s since the command's start
+    by: str  # itself, SIGTERM, SIGKILL, or kill for a net's act
 
 
 def name_of(status: int) -> str:
     """Returns the name of the signal that a command's status stands for, or otherwise the status as text."""
-    try:
-        return signal.Signals(status - SIGNALLED).name if status > SIGNALLED else str(status)
-    except ValueError:
-        return str(status)
+    if status > SIGNALLED:
+        with suppress(ValueError):  # there is no such signal
+            return signal.Signals(status - SIGNALLED).name
+    return str(status)
 
 
 class Ticker:
@@ -34,8 +34,9 @@ class Ticker:
 
     def __init__(self, do: Callable[[float], None]) -> None:
         """`do` receives the seconds since the start."""
-        self.do, self.begun = do, time.monotonic()
-        self.count = 0
+        self.do = do
+        self.begun = time.monotonic()
+        self.count = 0  # of calls
 
     def left(self) -> float:
         """Returns the seconds until the next call."""
@@ -68,10 +69,11 @@ class Processes:
         """Notes the statuses of all child processes that have ended, without a wait."""
         with suppress(ChildProcessError):
             while True:
-                process, status = os.waitpid(-1, os.WNOHANG)
+                process, wait_status = os.waitpid(-1, os.WNOHANG)
                 if not process:
                     return
-                self.ended[process] = os.WEXITSTATUS(status) if os.WIFEXITED(status) else SIGNALLED + os.WTERMSIG(status)
+                code = os.waitstatus_to_exitcode(wait_status)  # a signal's number is negative
+                self.ended[process] = code if code >= 0 else SIGNALLED - code
                 self.ended_at[process] = time.monotonic()
 
     def wait(
@@ -85,10 +87,12 @@ class Processes:
             now = time.monotonic()
             if until is not None and now >= until:
                 return None
-            remainder = [3600.0] if until is None else [until - now]
-            came = self.signal_within(min([*remainder, *([ticker.left()] if ticker else [])]))
-            if came:
-                return came
+            seconds = 3600.0 if until is None else until - now
+            if ticker:
+                seconds = min(seconds, ticker.left())
+            number = self.signal_within(seconds)
+            if number:
+                return number
             self.reap()
             if ticker:
                 ticker.tick()
@@ -100,32 +104,40 @@ class Processes:
         until = time.monotonic() + lasting
         self.reap()
         while not holds() and time.monotonic() < until:
-            came = self.signal_within(interval)
-            if came:
-                return came
+            number = self.signal_within(interval)
+            if number:
+                return number
             self.reap()
         return None
 
     def signal_within(self, seconds: float) -> Optional[int]:
         """Waits up to `seconds` for a signal, and returns its number. Returns None if no signal arrives or if a child process ends
         first. After a longer stop of this process, Python may return a random signal, which is ignored."""
-        came = signal.sigtimedwait(self.signals, seconds)
-        return came.si_signo if came and came.si_signo in self.signals - {signal.SIGCHLD} else None
+        information = signal.sigtimedwait(self.signals, seconds)
+        if information and information.si_signo in self.signals - {signal.SIGCHLD}:
+            return information.si_signo
+        return None
 
     def end_all(self, processes: list[int], patience: float) -> set[int]:
         """Ends processes and their groups with SIGTERM, and kills processes and groups that remain after `patience` seconds.
         Returns the killed processes."""
         self.reap()
-        rest = [process for process in processes if process not in self.ended]
-        for process in rest:
+        running = [process for process in processes if process not in self.ended]
+        for process in running:
             signal_group(process, signal.SIGTERM)
         until = time.monotonic() + patience
-        while (victims := {process for process in rest if self.is_there(process)}) and time.monotonic() < until:
+        remaining = self.remaining(running)
+        while remaining and time.monotonic() < until:
             signal.sigtimedwait({signal.SIGCHLD}, max(0.0, until - time.monotonic()))
-        for process in victims:
+            remaining = self.remaining(running)
+        for process in remaining:
             signal_group(process, signal.SIGKILL)
             self.wait_for_end(process, patience)
-        return victims
+        return remaining
+
+    def remaining(self, processes: list[int]) -> set[int]:
+        """Returns the processes that exist, or whose groups have other members."""
+        return {process for process in processes if self.is_there(process)}
 
     def endings(self, processes: dict[str, int], start: float, patience: float) -> dict[str, Ended]:
         """Ends commands, each of which has a name and a process, and returns how each ended, by name. `start` is the commands'
@@ -133,12 +145,13 @@ class Processes:
         self.reap()
         themselves = {name for name, process in processes.items() if process in self.ended}
         others = [process for name, process in processes.items() if name not in themselves]
-        victims = self.end_all(others, patience)
+        killed = self.end_all(others, patience)
         endings = dict[str, Ended]()
         for name, process in processes.items():
+            status = self.ended.get(process, SIGNALLED + signal.SIGKILL)
             after = round(self.ended_at.get(process, time.monotonic()) - start, 3)
-            by = "itself" if name in themselves else "SIGKILL" if process in victims else "SIGTERM"
-            endings[name] = Ended(self.ended.get(process, SIGNALLED + signal.SIGKILL), after, by)
+            by = "SIGKILL" if process in killed else "SIGTERM"
+            endings[name] = Ended(status, after, "itself" if name in themselves else by)
         return endings
 
     def is_there(self, process: int) -> bool:
@@ -160,6 +173,6 @@ class Processes:
     def wait_for_end(self, process: int, patience: float) -> None:
         """Waits up to `patience` seconds for a process that was asked to end; ignores further signals."""
         until = time.monotonic() + patience
-        while process not in self.ended and (remainder := until - time.monotonic()) > 0:
-            signal.sigtimedwait({signal.SIGCHLD}, remainder)
+        while process not in self.ended and time.monotonic() < until:
+            signal.sigtimedwait({signal.SIGCHLD}, max(0.0, until - time.monotonic()))
             self.reap()
