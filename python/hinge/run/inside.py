@@ -31,8 +31,11 @@ if TYPE_CHECKING:
 
 HOSTS = ("client", "server")
 WATCHED = {signal.SIGCHLD, signal.SIGTERM, signal.SIGHUP}
-LAST_PACKETS, QUIET, COMMAND_PATIENCE = 1.0, 0.3, 1.0  # s
-LISTEN_POLL, QUIET_POLL = 0.01, 0.02  # s
+LAST_PACKETS = 1.0  # s at most for packets after the command's end
+QUIET = 0.3  # s without a packet, after which none is expected
+COMMAND_PATIENCE = 1.0  # s that an interrupted command has to end
+LISTEN_POLL = 0.01  # s between looks whether the server listens
+QUIET_POLL = 0.02  # s between looks at the counts
 
 
 class Inside:
@@ -57,8 +60,9 @@ class Inside:
         self.joined = None if network is None else Joined(network, options.mtu, own_users)
         self.rooms = self.joined or Rooms(options.mtu, own_users, ends_of(options.net))
         self.begun = time.monotonic()
-        self.cgroups, self.waits = Cgroups(), Waits()
-        self.started: dict[str, int] = {}  # processes, by hosts
+        self.cgroups = Cgroups()
+        self.waits = Waits()
+        self.started: dict[str, int] = {}  # the commands' processes, by hosts
 
     def start(self, host: str, words: Sequence[str]) -> int:
         """Starts a command in a host's room and cgroup; returns its process."""
@@ -79,15 +83,15 @@ class Inside:
         if not self.options.server:
             return None, None
         server = self.start(HOSTS[1], ["sh", "-c", self.options.server])
+        ended = self.processes.ended
         enter(self.rooms.server)
-        came = self.processes.poll(
-            lambda: something_listens() or server in self.processes.ended, self.order.server_wait, LISTEN_POLL
-        )
-        if came is None and server in self.processes.ended:
-            say(f"the server ended with {name_of(self.processes.ended[server])} before it listened")
-        elif came is None and not something_listens():
-            say(f"the server doesn't listen after {self.order.server_wait:g} s; the command begins")
-        return server, came
+        number = self.processes.poll(lambda: something_listens() or server in ended, self.order.server_wait, LISTEN_POLL)
+        if number is None:
+            if server in ended:
+                say(f"the server ended with {name_of(ended[server])} before it listened")
+            elif not something_listens():
+                say(f"the server doesn't listen after {self.order.server_wait:g} s; the command begins")
+        return server, number
 
     def commanded(self, link: Link) -> tuple[int, bool]:
         """Runs the command while the link is up; without a command, waits for a signal or the link's end. Returns the command's
@@ -103,40 +107,45 @@ class Inside:
 
         if link.control:
             link.control.serve()
-        came = self.processes.wait(command, ticker=Ticker(tick) if watch or not is_simulated() else None, needed=link.process)
+        ticker = Ticker(tick) if watch or not is_simulated() else None
+        number = self.processes.wait(command, ticker=ticker, needed=link.process)
         self.look_at_waits()
         if not words:
             return 0, True
         if command in self.processes.ended:
             return self.processes.ended[command], False
         self.processes.end(command, COMMAND_PATIENCE)
-        return SIGNALLED + (came or signal.SIGTERM), True
+        return SIGNALLED + (number or signal.SIGTERM), True
 
     def let_last_packets_pass(self, server: int) -> None:
         """Waits until the server has ended or the link has been quiet for a moment, so that the server can receive the last
         packets."""
-        passages, since = -1, time.monotonic()
+        last_total = -1
+        last_change = time.monotonic()
 
-        def is_over() -> bool:
-            nonlocal passages, since
+        def look_at_counts() -> bool:
+            """Notes the moment if the counts have changed; returns whether the wait is over."""
+            nonlocal last_total, last_change
             total = sum(way["came"] + way["sent"] + way["held"] for way in self.page.read().ways)
-            if total != passages:
-                passages, since = total, time.monotonic()
-            return server in self.processes.ended or time.monotonic() - since > QUIET
+            if total != last_total:
+                last_total = total
+                last_change = time.monotonic()
+            return server in self.processes.ended or time.monotonic() - last_change > QUIET
 
-        self.processes.poll(is_over, LAST_PACKETS, QUIET_POLL)
+        self.processes.poll(look_at_counts, LAST_PACKETS, QUIET_POLL)
 
     def ended_server(self, server: int, is_interrupted: bool) -> Ended:
         """Ends the server and returns how it ended; prints a warning if the server failed or had to be killed."""
         self.processes.reap()
-        if server in self.processes.ended and self.processes.ended[server]:
-            say(f"the server ended with {name_of(self.processes.ended[server])} before the command did")
+        status = self.processes.ended.get(server, 0)
+        if status:
+            say(f"the server ended with {name_of(status)} before the command did")
         elif not is_interrupted:
             self.let_last_packets_pass(server)
-        endings = self.processes.endings({"server": server}, self.begun, self.order.server_end)["server"]
-        if endings.by == "SIGKILL":
+        ending = self.processes.endings({"server": server}, self.begun, self.order.server_end)["server"]
+        if ending.by == "SIGKILL":
             say(f"the server was killed, since SIGTERM didn't end it in {self.order.server_end:g} s")
-        return endings
+        return ending
 
     def doors(self) -> Enter:
         """Returns a function that opens a host's room for `hinge exec`."""
@@ -147,7 +156,8 @@ class Inside:
                 raise Wrong(f"{host!r}: the hosts are {' and '.join(HOSTS)}")
             from hinge.run.control import HostRoom
 
-            return HostRoom(doors.to(self.rooms.client if host == HOSTS[0] else self.rooms.server), {})
+            room = self.rooms.client if host == HOSTS[0] else self.rooms.server
+            return HostRoom(doors.to(room), {})
 
         return enter_host
 
@@ -160,26 +170,30 @@ class Inside:
 
     def whole_run(self) -> int:
         """Starts the server, the link and the command, ends them, and reports the run; returns the run's status."""
+        order = self.order
         if self.outside:  # before the server has mounts of its own
-            self.rooms.lead_out(self.outside.join(self.rooms.server, [NAME], [self.rooms.ends.client6]))
-        server, came = self.started_server()
-        if came:
-            return SIGNALLED + came
-        if self.ports:  # behind the server, for which its room must not listen before
+            has_ipv6 = self.outside.join(self.rooms.server, [NAME], [self.rooms.ends.client6])
+            self.rooms.lead_out(has_ipv6)
+        server, number = self.started_server()
+        if number:
+            return SIGNALLED + number
+        if self.ports:  # after the server, since these sockets would look as if the server listened
             self.ports.put_doors(self.rooms)
-        control = self.order.control(
-            self.page, lambda: record(self.page.read(), self.rooms.dropped(), None, self.order.seed, []), self.doors()
-        )
-        interfaces, order = self.rooms.interfaces, self.order
+        control = order.control(self.page, self.status, self.doors())
+        interfaces = self.rooms.interfaces
         link = Link(self.processes, self.page, ["tun", *map(str, interfaces)], interfaces, order.plan, order.mask, control)
         fault = link.failed()
         if fault is not None:
             return fault
         note_realtime(self.page)
         status, is_interrupted = self.commanded(link)
-        endings = None if server is None else self.ended_server(server, is_interrupted)
+        ending = None if server is None else self.ended_server(server, is_interrupted)
         link.end()
         drops = self.rooms.dropped()
         if self.joined:
             self.joined.end()
-        return report(self.order, self.page, drops, status, endings, self.waits)
+        return report(order, self.page, drops, status, ending, self.waits)
+
+    def status(self) -> dict[str, object]:
+        """Returns the counts for `hinge status`."""
+        return record(self.page.read(), self.rooms.dropped(), None, self.order.seed, [])
