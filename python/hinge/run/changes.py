@@ -21,18 +21,19 @@ class Change(NamedTuple):
 def refuse_second(new: Sequence[Change], before: set[tuple[int, str, int]]) -> None:
     """Checks that no new change configures the target of another change at the same moment, which would then have no effect, and
     adds the new changes to `before`. Wrong: a new change does."""
-    for one in new:
-        _, kind, number = subject = (one.moment, *target_of(one.line))
-        if configures(one.line) and subject in before:
-            raise Wrong(f"a line before changes {kind} {number} at this moment too; leave one of them out")
-        if kind in LINES:  # and not a cut's
+    for change in new:
+        target = target_of(change.line)
+        subject = (change.moment, target.kind, target.number)
+        if configures(change.line) and subject in before:
+            raise Wrong(f"a line before changes {target.kind} {target.number} at this moment too; leave one of them out")
+        if target.kind in LINES:  # unlike a line for a cut
             before.add(subject)
 
 
 class Outage(NamedTuple):
     """Describes an outage that delays packets and loses none."""
 
-    moment: int
+    moment: int  # ns
     length: int  # ns
     pipe: int
 
@@ -57,7 +58,8 @@ class Bandwidths(NamedTuple):
 
     def outages(self) -> Iterator[Outage]:
         """Yields an outage for each rate of 0; the last rate of 0 lasts to the last possible moment."""
-        for (moment, rate), end in zip(self.rates, chain(islice(self.rates.moments, 1, None), [LAST_MOMENT])):
+        ends = chain(islice(self.rates.moments, 1, None), [LAST_MOMENT])  # the next rates' moments
+        for (moment, rate), end in zip(self.rates, ends):
             if not rate and end > moment:
                 yield Outage(moment, end - moment, self.pipe)
 
@@ -81,18 +83,19 @@ class Changes:
     def __init__(self, longest: int, first: int = 1) -> None:
         """Creates an empty list. The longest packet has `longest` bytes. `first` is the number of the first cut; a number must be
         unique within a run."""
-        self.longest, self.latest = longest, first - 1
+        self.longest = longest
+        self.latest = first - 1  # the number of the last cut
         self.lines: list[Change] = []
-        self.traces: list[tuple[int, Bandwidths]] = []  # each behind so many lines
-        self.outages: dict[int, tuple[list[Outage], list[Bandwidths]]] = {}  # of each pipe, from lines and from traces
+        self.traces: list[tuple[int, Bandwidths]] = []  # each trace with the number of lines before the trace
+        self.outages: dict[int, tuple[list[Outage], list[Bandwidths]]] = {}  # by pipes, outages from lines and from traces
 
     def add(self, happenings: Iterable[Happening]) -> None:
         """Adds changes and outages."""
-        for one in happenings:
-            if isinstance(one, Outage):
-                self.outages.setdefault(one.pipe, ([], []))[0].append(one)
+        for happening in happenings:
+            if isinstance(happening, Outage):
+                self.outages.setdefault(happening.pipe, ([], []))[0].append(happening)
             else:
-                self.lines.append(one)
+                self.lines.append(happening)
 
     def follow(self, trace: Bandwidths) -> None:
         """Adds a trace's changes, behind the changes so far."""
@@ -119,15 +122,18 @@ class Changes:
         moment. `port` restricts the cut to a port's packets. Each cut has its own number: the pipe opens when the last of several
         simultaneous cuts ends."""
         self.latest += 1
-        end = [Change(moment + length, f"open {pipe} {self.latest}")] if moment + length < LAST_MOMENT else []
-        return [Change(moment, f"cut {pipe} {self.latest}{port}"), *end]
+        changes = [Change(moment, f"cut {pipe} {self.latest}{port}")]
+        if moment + length < LAST_MOMENT:
+            changes.append(Change(moment + length, f"open {pipe} {self.latest}"))
+        return changes
 
     def held(self) -> dict[int, Iterator[tuple[int, int]]]:
         """Returns the starts and ends of outages in ns, by pipes."""
-        return {
-            pipe: joined(merge(sorted(own), *(trace.outages() for trace in traces)))
-            for pipe, (own, traces) in sorted(self.outages.items(), key=itemgetter(0))
-        }
+        holds = dict[int, Iterator[tuple[int, int]]]()
+        for pipe in sorted(self.outages):
+            outages, traces = self.outages[pipe]
+            holds[pipe] = joined(merge(sorted(outages), *(trace.outages() for trace in traces)))
+        return holds
 
     def holds(self) -> Iterator[tuple[int, int, int]]:
         """Yields the outages, each as a pipe, a start and an end in ns."""

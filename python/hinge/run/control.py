@@ -24,8 +24,8 @@ Record = dict[str, Any]
 class HostRoom(NamedTuple):
     """Describes a host's room for another process that enters the room."""
 
-    doors: list[int]  # of doors.py
-    variables: dict[str, str]  # of the environment there
+    doors: list[int]  # descriptors, as in doors.py
+    variables: dict[str, str]  # the environment of commands there
 
 
 Enter = Callable[[str], HostRoom]
@@ -63,14 +63,13 @@ class Control:
         self.status = status
         self.enter = enter
         self.lines = lines or HostLines()
-        # of the order that is obeyed
-        self.until = 0.0
-        self.is_wanted = lambda: True
+        self.until = 0.0  # how long the current client waits
+        self.is_wanted = lambda: True  # whether the current client is still there
         try:
             self.server = Server(path)
         except OSError as error:
-            is_taken = error.errno == errno.EEXIST
-            raise Missing(f"--control {path}: {'a run or a file has this name' if is_taken else error.strerror or error}") from None
+            reason = "a run or a file has this name" if error.errno == errno.EEXIST else error.strerror or error
+            raise Missing(f"--control {path}: {reason}") from None
 
     def serve(self) -> None:
         """Starts to answer clients."""
@@ -104,39 +103,45 @@ class Control:
             raise Wrong(f"not obeyed: another order is under way since {PATIENCE:g} s")
         if not client.is_there():
             raise Wrong("not obeyed: its client has gone")
-        self.until, self.is_wanted = client.until, client.is_there
+        self.until = client.until
+        self.is_wanted = client.is_there
         return self.change(words)
 
     def change(self, words: str) -> list[ObeyedLine]:
         """Makes the host hinge-link apply the words of a change from now on; returns each line with the line's moment in ns, and
         with the reason if the host refused the line. Wrong: the words describe an outage without `lossy`."""
         moment = self.moment()
-        new = self.obey(words, moment)
-        if isinstance(new, ObeyedLine):
-            return [new]
-        changes = [one for one in new if isinstance(one, Change)]
-        if len(changes) < len(new):
+        effect = self.obey(words, moment)
+        if isinstance(effect, ObeyedLine):
+            return [effect]
+        changes = [happening for happening in effect if isinstance(happening, Change)]
+        if len(changes) < len(effect):
             raise Wrong("an outage from now on loses packets: write `outage LENGTH lossy`")
-        for kind in ("change", *(["act"] if words.split()[0] in LINK_WORDS else [])):
-            self.lines.ask(f"line remark {kind},{words}", self.until, self.is_wanted)
+        self.add_remark(f"change,{words}")
+        if words.split()[0] in LINK_WORDS:
+            self.add_remark(f"act,{words}")
         return self.followed(changes, moment)
 
-    def followed(self, new: list[Change], moment: int) -> list[ObeyedLine]:
-        """Sends lines to the host, and returns the host's answers, without those to accepted heals. A cut and its end form a single
-        line, so that no cut stays without an end. Wrong: a heal ends no cut."""
-        ends = {one.line.partition(" ")[2]: one.moment for one in new if one.line.startswith("open ")}
+    def add_remark(self, text: str) -> None:
+        """Adds a remark to the transcript."""
+        self.lines.ask(f"line remark {text}", self.until, self.is_wanted)
+
+    def followed(self, changes: list[Change], moment: int) -> list[ObeyedLine]:
+        """Sends changes to the host, and returns the host's answers, without those to heals that ended no cut. A cut and its end
+        form a single line, so that no cut stays without an end. Wrong: all changes are heals, and none ended a cut."""
+        end_of_cut = {change.line.partition(" ")[2]: change.moment for change in changes if change.line.startswith("open ")}
         replies = list[ObeyedLine]()
-        is_heal = bool(new) and all(one.line.startswith("heal ") for one in new)
-        for one in new:
-            kind = one.line.split(" ", 1)[0]
-            cut = " ".join(one.line.split(" ", 3)[1:3])
-            if kind == "cut" and cut in ends:
-                replies += self.cut_for(one.line, ends[cut] - moment)
-            elif kind != "open":
-                replies.append(self.asked_of_host(self.plan.lossy(one.line), one.moment - moment))
-        if is_heal and all(one.line.startswith("heal ") and not one.refused for one in replies):
+        for change in changes:
+            words = change.line.split(" ", 3)
+            cut = " ".join(words[1:3])  # the cut's pipe and number
+            if words[0] == "cut" and cut in end_of_cut:
+                replies += self.cut_for(change.line, end_of_cut[cut] - moment)
+            elif words[0] != "open":
+                replies.append(self.asked_of_host(self.plan.lossy(change.line), change.moment - moment))
+        useful = [reply for reply in replies if reply.refused or not reply.line.startswith("heal ")]
+        if changes and not useful and all(change.line.startswith("heal ") for change in changes):
             raise Wrong("heal: no cut of such a link goes on")
-        return [one for one in replies if not one.line.startswith("heal ") or one.refused]
+        return useful
 
     def cut_for(self, line: str, length: int) -> list[ObeyedLine]:
         """Starts a cut that ends after `length` ns; returns the lines of the cut's start and end, or the line that the host
@@ -157,5 +162,6 @@ class Control:
     def asked_of_host(self, line: str, later: int = 0) -> ObeyedLine:
         """Makes the host apply a line after `later` ns. Returns the line that the pipe then has, unless another change comes first,
         or the reason for the host's refusal."""
-        answer = self.lines.ask(f"at {later} {line}" if later else f"line {line}", self.until, self.is_wanted)
+        request = f"at {later} {line}" if later else f"line {line}"
+        answer = self.lines.ask(request, self.until, self.is_wanted)
         return ObeyedLine(answer.moment + later, answer.line or line, answer.wrong)

@@ -12,7 +12,7 @@ from hinge.command_line import add, Joined, Parser
 from hinge.foreign_options import OF_LINK, OPTIONS
 from hingetulip_words.values import EXAMPLES
 
-MOST = 250_000_000  # bytes of a part of a transcript: an audit reads at most 268,435,456
+MOST = 250_000_000  # bytes of a part of a transcript, since an audit reads at most 268,435,456
 
 
 def mtu(text: str) -> int:
@@ -43,7 +43,8 @@ def preset_name(text: str) -> str:
         return text
     except ValueError as wrong:
         link = corrected(text)
-        raise argparse.ArgumentTypeError(f"{text!r}: not a preset; write --link {link!r}" if link else str(wrong)) from None
+        message = f"{text!r}: not a preset; write --link {link!r}" if link else str(wrong)
+        raise argparse.ArgumentTypeError(message) from None
 
 
 class ListPresets(argparse.Action):
@@ -64,7 +65,7 @@ class BothWays(Joined):
     def __call__(self, parser: argparse.ArgumentParser, namespace: argparse.Namespace, values: object, option: Any = None) -> None:
         from hinge.run.plan_of_options import own_link
 
-        own_link(str(values), "--link")  # a wrong word is of this option, and not of --up
+        own_link(str(values), "--link")  # so that the message about a wrong word names --link, not --up
         for way in ("up", "down"):
             if not (isinstance(parser, Parser) and f"--{way}" in parser.given):
                 setattr(namespace, way, values)
@@ -78,7 +79,8 @@ class Foreign(argparse.Action):
         if self.const:
             from hingetulip_words.link import corrected
 
-            parser.error(f"{option}: write {self.const.format(values and (corrected(values) or values))}")
+            value = (corrected(values) or values) if values else values
+            parser.error(f"{option}: write {self.const.format(value)}")
         elif isinstance(parser, Parser):
             parser.foreign.append((option, values or ""))
 
@@ -90,8 +92,9 @@ class Model(argparse._AppendAction):
     def __call__(self, parser: argparse.ArgumentParser, namespace: argparse.Namespace, values: Any, option: Any = None) -> None:
         from hinge.loss import rate_of
 
-        if isinstance(parser, Parser) and rate_of(values):
-            parser.foreign.append(("--loss", rate_of(values)))
+        rate = rate_of(values)
+        if isinstance(parser, Parser) and rate:
+            parser.foreign.append(("--loss", rate))
         else:
             super().__call__(parser, namespace, values, option)
 
@@ -100,16 +103,18 @@ def add_foreign(parser: Parser, table: Mapping[str, str]) -> None:
     """Adds hidden options that the command refuses: other tools' options, and the options in `table`, each with the command's own
     advice."""
     for option in dict.fromkeys((*table, *OF_LINK, *OPTIONS)):
-        unseen = argparse.SUPPRESS
-        action = parser.add_argument(option, action=Foreign, const=table.get(option), default=unseen, help=unseen)
-        action.nargs = None if OPTIONS.get(option, ("", True))[1] else 0
+        hidden = argparse.SUPPRESS
+        action = parser.add_argument(option, action=Foreign, const=table.get(option), default=hidden, help=hidden)
+        _, has_value = OPTIONS.get(option, ("", True))
+        action.nargs = None if has_value else 0
 
 
 def add_link(parser: Parser, table: Optional[Mapping[str, str]] = None) -> None:
     """Adds the options for the link and its changes, and the hidden options that the command refuses."""
     add_foreign(parser, table or {})
     link = parser.add_argument_group("the link")
-    add(link, "--up LINK", f"towards the server, as '{' '.join(EXAMPLES)}': pipe 1".replace("%", "%%"), action=Joined)
+    example = " ".join(EXAMPLES).replace("%", "%%")
+    add(link, "--up LINK", f"towards the server, as '{example}': pipe 1", action=Joined)
     link.add_argument("--down", metavar="LINK", action=Joined, help="from the server: pipe 2")
     link.add_argument("--link", metavar="LINK", action=BothWays, default=argparse.SUPPRESS, help="both ways")
     add(link, "--preset NAME", "the link of a name, as lte, in each direction of which nothing else is said", type=preset_name)

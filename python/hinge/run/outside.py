@@ -34,11 +34,12 @@ def side(front: str) -> Side:
     return Side(f"{front}.0/24", f"{front}.100", f"{front}.2", f"{front}.3")
 
 
-FIRST, SECOND = side("10.9.0"), side("10.10.0")
+FIRST = side("10.9.0")
+SECOND = side("10.10.0")  # if the hosts' network contains addresses of the first
 GATEWAY = FIRST.gateway
-OWN6, GATEWAY6 = "fd00::100", "fd00::2"  # and this network of IPv6 always
+OWN6, GATEWAY6 = "fd00::100", "fd00::2"
 INTERFACE = "outside"
-PATIENCE = 20  # s
+PATIENCE = 20  # s until the interface appears
 
 
 def words_for(process: str, own_users: bool, ipv6: bool, loopback: bool, outer: Side) -> list[str]:
@@ -47,22 +48,24 @@ def words_for(process: str, own_users: bool, ipv6: bool, loopback: bool, outer: 
 
     By default, both programs map the gateway to the system's loopback, whose servers would then see local callers. This happens
     only if `loopback` is true."""
-    network, users = f"/proc/{process}/ns/net", f"/proc/{process}/ns/user"
+    network = f"/proc/{process}/ns/net"
+    users = f"/proc/{process}/ns/user"
     if shutil.which("slirp4netns"):
-        more = [
-            *["--enable-ipv6"] * ipv6,
-            *(["--disable-host-loopback"] if not loopback else []),
-            *[f"--userns-path={users}"] * own_users,
-        ]
-        return ["slirp4netns", "--configure", "--mtu=1500", f"--cidr={outer.net}", "--netns-type=path", *more, network, INTERFACE]
-    more = ["--address", OWN6, "--gateway", GATEWAY6] if ipv6 else ["--ipv4-only"]
-    return [
-        *("pasta", "--foreground", "--quiet", "--config-net", "--ns-ifname", INTERFACE, *more, "--mtu", "1500"),
-        *("--address", outer.own, "--netmask", "24", "--gateway", outer.gateway, "--dns-forward", outer.resolver),
-        *"-t none -u none -T none -U none".split(),
-        *(["--no-map-gw"] if not loopback else []),
-        *("--userns", users, "--netns", network),
-    ]
+        words = ["slirp4netns", "--configure", "--mtu=1500", f"--cidr={outer.net}", "--netns-type=path"]
+        if ipv6:
+            words.append("--enable-ipv6")
+        if not loopback:
+            words.append("--disable-host-loopback")
+        if own_users:
+            words.append(f"--userns-path={users}")
+        return [*words, network, INTERFACE]
+    words = ["pasta", "--foreground", "--quiet", "--config-net", "--ns-ifname", INTERFACE]
+    words += ["--address", OWN6, "--gateway", GATEWAY6] if ipv6 else ["--ipv4-only"]
+    words += ["--mtu", "1500", "--address", outer.own, "--netmask", "24", "--gateway", outer.gateway]
+    words += ["--dns-forward", outer.resolver, *"-t none -u none -T none -U none".split()]
+    if not loopback:
+        words.append("--no-map-gw")
+    return [*words, "--userns", users, "--netns", network]
 
 
 class Outside:
@@ -79,12 +82,12 @@ class Outside:
                 "--outside: slirp4netns isn't there, nor pasta, which serves users but root: sudo apt install slirp4netns"
             )
         self.ipv6 = leads_out_in_ipv6()
-        self.said = os.memfd_create("said")  # what the joining program says: told where there is no way out
+        self.output = os.memfd_create("said")  # the output of the program that connects the room, for an error's message
         read_end, self.write_end = os.pipe()
-        forked(lambda: self.join_what_is_told(read_end))
+        forked(lambda: self.wait_and_connect(read_end))
         os.close(read_end)
 
-    def join_what_is_told(self, read_end: int) -> int:
+    def wait_and_connect(self, read_end: int) -> int:
         """Waits for two messages, in any order: `PROCESS OWN` about the first process in the rooms, and `!` from that process once
         it is in the host's room. Then becomes the program that connects the room. Returns 0 if the messages end early, or a status
         if the program doesn't start."""
@@ -92,15 +95,15 @@ class Outside:
         os.close(self.write_end)
         text = b""
         while b"!" not in text or text == b"!":
-            more = os.read(read_end, 100)
-            if not more:
+            data = os.read(read_end, 100)
+            if not data:
                 return 0
-            text += more
+            text += data
         process, own_users = text.replace(b"!", b"").decode().split()
         words = words_for(process, own_users == "True", self.ipv6, self.loopback, self.outer)
-        os.dup2(self.said, 1)
-        os.dup2(self.said, 2)
-        signal.signal(signal.SIGPIPE, signal.SIG_DFL)  # pasta refuses to begin where it is ignored
+        os.dup2(self.output, 1)
+        os.dup2(self.output, 2)
+        signal.signal(signal.SIGPIPE, signal.SIG_DFL)  # pasta doesn't start if SIGPIPE is ignored
         return become(words)
 
     def tell(self, first: int, own_users: bool) -> None:
@@ -124,18 +127,19 @@ class Outside:
         appears."""
         enter(network)
         for name in ("accept_dad", "accept_ra"):
-            # else it asks for a second whether its address is another's
+            # Otherwise the interface would check for a second whether its address is in use.
             try_to_write(f"/proc/sys/net/ipv6/conf/default/{name}", "0")
         os.write(self.write_end, b"!")
         until = time.monotonic() + PATIENCE
         while not self.joined():
             if time.monotonic() > until:
-                raise Missing(
-                    f"--outside: the host gets no way out: {os.pread(self.said, 1000, 0).decode(errors='replace').strip()}"
-                )
+                output = os.pread(self.output, 1000, 0).decode(errors="replace").strip()
+                raise Missing(f"--outside: the host gets no way out: {output}")
             time.sleep(0.01)
-        for name in (*interfaces, INTERFACE) if interfaces else ():
-            hand_on(name, is_asked=name == INTERFACE)
+        for name in interfaces:
+            hand_on(name, is_asked=False)
+        if interfaces:
+            hand_on(INTERFACE)
         put_over("/etc/resolv.conf", f"nameserver {self.outer.resolver}\n")
         return self.ipv6 and self.hands_on_ipv6(others)
 
@@ -146,10 +150,10 @@ class Outside:
             write("/proc/sys/net/ipv6/conf/all/forwarding", "1")
         except OSError:
             return False
-        gives: list[Callable[[], None]] = [lambda: add_address(INTERFACE, OWN6, 64), lambda: add_route(GATEWAY6)]
-        for give in gives:
+        additions: list[Callable[[], None]] = [lambda: add_address(INTERFACE, OWN6, 64), lambda: add_route(GATEWAY6)]
+        for add in additions:
             try:
-                give()
+                add()
             except OSError as error:
                 if error.errno != errno.EEXIST:
                     raise

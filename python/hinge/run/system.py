@@ -49,9 +49,9 @@ def must(result: int) -> None:
         raise OSError(number, os.strerror(number))
 
 
-def exchange(one: str, other: str) -> None:
+def exchange(first: str, second: str) -> None:
     """Swaps the names of two files or folders atomically."""
-    must(libc.renameat2(FROM_HERE, os.fsencode(one), FROM_HERE, os.fsencode(other), EXCHANGE))
+    must(libc.renameat2(FROM_HERE, os.fsencode(first), FROM_HERE, os.fsencode(second), EXCHANGE))
 
 
 @kept_as_step
@@ -73,9 +73,8 @@ def enter(network: int) -> None:
 
 def mount(source: str, target: str, kind: str, flags: int, more: Optional[str] = None) -> None:
     """Mounts a file system; `more` contains its options."""
-    must(
-        libc.mount(os.fsencode(source), os.fsencode(target), kind.encode(), ctypes.c_ulong(flags), more.encode() if more else None)
-    )
+    options = more.encode() if more else None
+    must(libc.mount(os.fsencode(source), os.fsencode(target), kind.encode(), ctypes.c_ulong(flags), options))
 
 
 def unmount(target: str) -> None:
@@ -93,12 +92,14 @@ def keep_mounts_to_itself() -> None:
     except OSError as error:
         if error.errno != errno.EINVAL:
             raise
-        root, place, own = (held(name) for name in ("/", ".", "/proc/thread-self/ns/mnt"))
-        must(libc.setns(own, NEWNS))
+        root = held("/")
+        folder = held(".")
+        own_mounts = held("/proc/thread-self/ns/mnt")
+        must(libc.setns(own_mounts, NEWNS))  # which also moves this process to the namespace's root
         mount("none", "/", "none", REC | PRIVATE)
         os.fchdir(root)
         os.chroot(".")
-        os.fchdir(place)
+        os.fchdir(folder)
 
 
 def die_with_parent(parent: int = 0, number: int = KILL) -> None:
@@ -112,8 +113,9 @@ def die_with_parent(parent: int = 0, number: int = KILL) -> None:
 def keep_network_rights() -> None:
     """Lets later programs use raw sockets, ports below 1024 and the namespace's interfaces without root."""
     rights = (BIND_SERVICE, NET_ADMIN, NET_RAW)
-    part = sum(1 << right for right in rights)
-    libc.syscall(CAPSET, struct.pack("Ii", CAPABILITY_VERSION, 0), struct.pack("6I", part, part, part, 0, 0, 0))
+    bits = sum(1 << right for right in rights)
+    # The bits of the effective, permitted and inheritable rights, and then the higher bits of each.
+    libc.syscall(CAPSET, struct.pack("Ii", CAPABILITY_VERSION, 0), struct.pack("6I", bits, bits, bits, 0, 0, 0))
     for right in rights:
         libc.prctl(AMBIENT, AMBIENT_RAISE, right, 0, 0)
 
