@@ -34,13 +34,13 @@ class Order(NamedTuple):
     """Describes a run according to the command line."""
 
     options: LiveOptions
-    plan: str
-    limit: Optional[float]  # ms
+    plan: str  # the text for hinge-link
+    limit: Optional[float]  # ms, from --late
     seed: int
-    draws: bool
-    mask: Mask  # of what is started
-    server_wait: float  # s within which the server is to listen
-    server_end: float  # s that it has to end after SIGTERM
+    draws: bool  # whether the links draw random numbers from the seed
+    mask: Mask  # the signals that started programs block
+    server_wait: float  # s until the server has to listen
+    server_end: float  # s until the server has to end after SIGTERM
     made: Plan
 
     def control(self, page: Page, status: Callable[[], Record], enter: Optional[Enter] = None) -> Optional[Control]:
@@ -49,8 +49,9 @@ class Order(NamedTuple):
             return None
         from hinge.run.control import Control  # which other runs don't load, as they start sooner
 
-        words = self.options.control, self.made, page, self.made.read, status
-        return Control(*words, enter) if enter else Control(*words)
+        if enter is None:
+            return Control(self.options.control, self.made, page, self.made.read, status)
+        return Control(self.options.control, self.made, page, self.made.read, status, enter)
 
 
 def order_of(options: LiveOptions, longest: int, mask: Mask, server_wait: str = "0", server_end: str = "0") -> Order:
@@ -81,18 +82,24 @@ def report(
 ) -> int:
     """Reports the run, on standard error and in the --json file; returns the command's status, or VOID for a void run. `drops` are
     the packets that the system dropped before each way (one direction of the link)."""
-    options, counts = order.options, page.read()
-    of_programs = waits.over if waits else lambda limit: []
+    counts = page.read()
+    lateness = waits.over if waits else lambda limit: []  # of programs that waited for a processor
     awaited = order.made.awaited()
     may_be_late = waits is not None
-    faults, warnings = verdict(counts, drops, order.plan, order.limit, of_programs, awaited=awaited, may_be_late=may_be_late)
-    lines = [line(counts, drops) + f"; seed {order.seed}" * order.draws, *(warnings if status != NOT_FOUND else ())]
-    told_all = {
-        **record(counts, drops, status, order.seed, faults),
-        **({"server": server._asdict()} if server else {}),
-        **({"late_limit_ms": order.limit, "waited_ms": waits.record()} if waits else {}),
-    }
-    return told_status(options, [] if options.quiet else lines, counts["parts"], told_all, status, say)
+    faults, warnings = verdict(counts, drops, order.plan, order.limit, lateness, awaited=awaited, may_be_late=may_be_late)
+    lines = [line(counts, drops)]
+    if order.draws:
+        lines[0] += f"; seed {order.seed}"
+    if status != NOT_FOUND:
+        lines += warnings
+    if order.options.quiet:
+        lines = []
+    summary = record(counts, drops, status, order.seed, faults)
+    if server:
+        summary["server"] = server._asdict()
+    if waits:
+        summary |= {"late_limit_ms": order.limit, "waited_ms": waits.record()}
+    return told_status(order.options, lines, counts["parts"], summary, status, say)
 
 
 def told_status(
@@ -100,8 +107,11 @@ def told_status(
 ) -> int:
     """Prints the summary's lines through `tell`, and writes the record into the --json file. Returns VOID for a void run, otherwise
     the status, or FILES if the status is 0 but the file can't be written."""
-    of_transcript = told(options.transcript, parts) if options.transcript else ()
-    for text in [*lines, *of_transcript, *(f"void: {fault}" for fault in record["void"])]:
+    texts = [*lines]
+    if options.transcript:
+        texts += told(options.transcript, parts)
+    texts += [f"void: {fault}" for fault in record["void"]]
+    for text in texts:
         tell(text)
     try:
         if options.json:

@@ -7,37 +7,61 @@ import mmap
 import os
 import struct
 import time
+from itertools import accumulate
 
-BINS = 480  # of times in us: 16 for each power of two; page.h has the same
+BINS = 480  # of times in us, 16 bins for each power of two; page.h contains the same number
 HEAD = ("state", "moment", "wakes", "turns", "underway", "realtime", "parts")
-COUNTS = (
-    *("came", "came_bytes", "sent", "sent_bytes", "lost", "full", "no_target", "refused", "corrupted"),
-    *("not_ip", "turned_away", "dropped", "held", "discarded", "stayed", "late_most", "unread_most"),
+COUNTS = (  # of a way; page.h describes each
+    "came",
+    "came_bytes",
+    "sent",
+    "sent_bytes",
+    "lost",
+    "full",
+    "no_target",
+    "refused",
+    "corrupted",
+    "not_ip",
+    "turned_away",
+    "dropped",
+    "held",
+    "discarded",
+    "stayed",
+    "late_most",
+    "unread_most",
 )
-KINDS = 4  # of bins: packets late and unread, and the time in which some were
-WAY = len(COUNTS) + KINDS * BINS
-STARTING, RUNNING, ENDED_WELL = range(3)  # the states
-LOOKS = 5
-MET = 16  # numbers behind the ways, with a bit for each of the first rules
-HAS_IT, NOT_ALLOWED = 1, 2  # of `realtime`
+KINDS = 4  # of histograms: late packets, unread packets, time with late packets, and time with unread packets
+WAY = len(COUNTS) + KINDS * BINS  # numbers of a way
+STARTING, RUNNING, ENDED_WELL = range(3)  # values of `state`
+LOOKS = 5  # readings of the clocks
+MET = 16  # numbers behind the ways' numbers, with a bit for each of the first rules
+HAS_IT, NOT_ALLOWED = 1, 2  # values of `realtime`
 
 
 class Times:
     """Holds a histogram of times, whose bins count packets or ns, and the longest time in ns."""
 
     def __init__(self, bins: tuple[int, ...], most: int) -> None:
-        self.bins, self.most = bins, most
+        self.bins = bins
+        self.most = most  # ns
 
     def within(self, share: float) -> float:
         """Returns the ms that this share of the packets or of the time doesn't exceed: the upper end of a bin, but at most the
         longest time."""
-        total, below = sum(self.bins), 0
-        for index, count in enumerate(self.bins if total else ()):
-            below += count
-            if below >= share * total:
-                power, us = (0, index) if index < 32 else ((index - 16) // 16, 16 + index % 16)
-                return min(((us + 1) << power) / 1e3, self.most / 1e6)
+        total = sum(self.bins)
+        if not total:
+            return 0.0
+        for index, count in enumerate(accumulate(self.bins)):
+            if count >= share * total:
+                return min(end_of_bin(index) / 1e3, self.most / 1e6)
         return 0.0
+
+
+def end_of_bin(index: int) -> int:
+    """Returns the upper end of a bin in us. The first 32 bins have a width of 1 us; then 16 bins divide each power of two."""
+    if index < 32:
+        return index + 1
+    return (16 + index % 16 + 1) << (index - 16) // 16
 
 
 class Way:
@@ -47,12 +71,11 @@ class Way:
         """Reads a way's part of the page. `moment` is the ns since the start of the links' clock; all ns that the host didn't count
         are time without late packets."""
         self.counts = dict(zip(COUNTS, numbers))
-        late, unread, *times = (numbers[at : at + BINS] for at in range(len(COUNTS), WAY, BINS))
-        self.late, self.unread = Times(late, self["late_most"]), Times(unread, self["unread_most"])
-        self.late_time, self.unread_time = (
-            Times((bins[0] + max(0, moment - sum(bins)), *bins[1:]), packets.most)
-            for bins, packets in zip(times, (self.late, self.unread))
-        )
+        late, unread, late_time, unread_time = (numbers[start : start + BINS] for start in range(len(COUNTS), WAY, BINS))
+        self.late = Times(late, self["late_most"])
+        self.unread = Times(unread, self["unread_most"])
+        self.late_time = Times(with_uncounted(late_time, moment), self["late_most"])
+        self.unread_time = Times(with_uncounted(unread_time, moment), self["unread_most"])
 
     def __getitem__(self, name: str) -> int:
         return self.counts[name]
@@ -61,6 +84,12 @@ class Way:
     def underway(self) -> int:
         """Returns how many packets are on the way now."""
         return self["came"] - sum(self[name] for name in ("sent", "refused", "lost", "full", "no_target", "discarded"))
+
+
+def with_uncounted(bins: tuple[int, ...], moment: int) -> tuple[int, ...]:
+    """Returns a histogram of ns, whose first bin also contains the ns until `moment` that no bin contains."""
+    uncounted = max(0, moment - sum(bins))
+    return (bins[0] + uncounted, *bins[1:])
 
 
 class Counts:
@@ -72,7 +101,7 @@ class Counts:
         self.head = dict(zip(HEAD, numbers))
         end = len(numbers) - (len(numbers) - len(HEAD)) % WAY
         self.ways = [Way(numbers[at : at + WAY], self["moment"]) for at in range(len(HEAD), end, WAY)]
-        self.met = numbers[end:]
+        self.met = numbers[end:]  # 64 bits each
 
     def __getitem__(self, name: str) -> int:
         return self.head[name]
@@ -80,7 +109,9 @@ class Counts:
     def has_met(self, rule: int) -> bool:
         """Returns whether a packet matched a rule; `rule` is the rule's place among the plan's rules. The host keeps no bit for
         very late rules, which count as matched."""
-        return rule >= 64 * len(self.met) or bool(self.met[rule // 64] >> rule % 64 & 1)
+        if rule >= 64 * len(self.met):
+            return True
+        return bool(self.met[rule // 64] >> rule % 64 & 1)
 
 
 def asleep() -> int:
