@@ -13,8 +13,8 @@ from hinge.run.processes import Mask
 from hinge.run.rooms import start
 from hinge.run.system import NEWNET, NEWNS, NEWPID, NEWUSER, NEWUTS, die_with_parent, join, unshare
 
-KINDS = (("user", NEWUSER), ("mnt", NEWNS), ("pid", NEWPID))  # in the order in which they are entered
-DOORS = len(KINDS) + 2  # with the root and a room's network; and cgroup.procs of its cgroup, where it has one
+KINDS = (("user", NEWUSER), ("mnt", NEWNS), ("pid", NEWPID))  # the namespaces, in the order of entering
+DOORS = len(KINDS) + 2  # with the root and a room's network; a last door may be cgroup.procs in a cgroup's folder
 
 
 class Doors:
@@ -25,9 +25,10 @@ class Doors:
 
     def to(self, network: int, mounts: Optional[list[int]] = None) -> list[int]:
         """Returns the doors to the room with this network. `mounts` are the room's own root and mount namespace, if any."""
-        root, users, namespace, processes = self.shared
-        root, namespace = mounts or (root, namespace)
-        return [root, users, namespace, processes, network]
+        root, users, mount_namespace, processes = self.shared
+        if mounts:
+            root, mount_namespace = mounts
+        return [root, users, mount_namespace, processes, network]
 
 
 def is_here(namespace: int, kind: str) -> bool:
@@ -40,8 +41,8 @@ def started_behind(doors: Sequence[int], host: str, words: Sequence[str], mask: 
     the command's process. This process's later children also run there, and end with the run."""
     folder = os.getcwd()
     root, *namespaces, network = doors[:DOORS]
-    strange = [(namespace, flag) for (kind, flag), namespace in zip(KINDS, namespaces) if not is_here(namespace, kind)]
-    for namespace, flag in strange:
+    others = [(namespace, flag) for (kind, flag), namespace in zip(KINDS, namespaces) if not is_here(namespace, kind)]
+    for namespace, flag in others:
         join(namespace, flag)
     os.fchdir(root)
     os.chroot(".")
@@ -55,4 +56,5 @@ def started_behind(doors: Sequence[int], host: str, words: Sequence[str], mask: 
         socket.sethostname(host)
         os.chdir(folder)
 
-    return start(words, mask, enter_room, any(flag == NEWUSER for _, flag in strange))
+    has_new_users = any(flag == NEWUSER for _, flag in others)
+    return start(words, mask, enter_room, has_new_users)

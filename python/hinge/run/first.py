@@ -40,19 +40,21 @@ def status_of(first: int, leash: Optional[int] = None) -> int:
     reports: if the other end is closed, the first process gets SIGTERM; if a byte arrives, a later close means nothing."""
     is_interrupted = False
     while True:
-        came = signal.sigwaitinfo(BLOCKED)
-        if came.si_signo == signal.SIGCHLD:
-            process, status = os.waitpid(first, os.WNOHANG)
+        information = signal.sigwaitinfo(BLOCKED)
+        number = information.si_signo
+        if number == signal.SIGCHLD:
+            process, wait_status = os.waitpid(first, os.WNOHANG)
             if process:
-                code = os.waitstatus_to_exitcode(status)
-                return INTERRUPTED if is_interrupted and code in (SIGNALLED + signal.SIGTERM, -signal.SIGTERM) else code
-        elif came.si_signo == signal.SIGIO:
+                code = os.waitstatus_to_exitcode(wait_status)
+                is_terminated = code in (SIGNALLED + signal.SIGTERM, -signal.SIGTERM)
+                return INTERRUPTED if is_interrupted and is_terminated else code
+        elif number == signal.SIGIO:
             if leash is not None and can_be_read(leash, 0):
                 if not os.read(leash, 1):
                     os.kill(first, signal.SIGTERM)
                 leash = None
-        elif came.si_signo != signal.SIGINT or came.si_code == 0:
-            is_interrupted = came.si_signo == signal.SIGINT
+        elif number != signal.SIGINT or information.si_code == 0:  # a terminal's ^C has another code
+            is_interrupted = number == signal.SIGINT
             os.kill(first, signal.SIGTERM)
 
 

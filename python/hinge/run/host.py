@@ -21,7 +21,7 @@ if TYPE_CHECKING:
 NAME = "hinge-link"
 HERE = Path(__file__).resolve().parent
 POLL = 0.0005  # s between looks at the page
-PIECE = 1 << 16  # letters of a plan
+PIECE = 1 << 16  # letters of a plan that are written at once
 
 
 def program() -> str:
@@ -44,11 +44,10 @@ def program() -> str:
 def plan_file(text: str) -> int:
     """Returns a descriptor from which hinge-link can read the plan."""
     descriptor = os.memfd_create("plan")
-    with os.fdopen(
-        os.dup(descriptor), "w", encoding="utf-8", errors="surrogateescape"
-    ) as file:  # which may name files of any bytes
-        for at in range(0, len(text), PIECE):  # since as much of a text as is written at once is copied
-            file.write(text[at : at + PIECE])
+    # Names of files in a plan may contain any bytes. Each call of `write` copies its text, so a long text is written in pieces.
+    with os.fdopen(os.dup(descriptor), "w", encoding="utf-8", errors="surrogateescape") as file:
+        for start in range(0, len(text), PIECE):
+            file.write(text[start : start + PIECE])
     os.lseek(descriptor, 0, os.SEEK_SET)
     return descriptor
 
@@ -69,31 +68,36 @@ class Link:
     ) -> None:
         """Starts hinge-link with the arguments `words`; the program inherits `descriptors`. `lines` sends lines to the program
         during the run; a control socket has its own object for this."""
-        self.processes, self.page, self.control = processes, page, control
-        lines = control.lines if control else lines
-        plan_read = plan_file(plan + lines.line() if lines else plan)
-        total = [*descriptors, page.descriptor, *([lines.descriptor()] if lines else [])]
-        words = [program(), *words, str(page.descriptor)]
+        self.processes = processes
+        self.page = page
+        self.control = control
+        inherited = [*descriptors, page.descriptor]
+        if control:
+            lines = control.lines
+        if lines:
+            plan += lines.line()
+            inherited.append(lines.descriptor())
+        plan_descriptor = plan_file(plan)
+        command = [program(), *words, str(page.descriptor)]
 
         def begin() -> int:
-            os.dup2(plan_read, 0)
-            for descriptor in total:
+            os.dup2(plan_descriptor, 0)
+            for descriptor in inherited:
                 os.set_inheritable(descriptor, True)
             signal.pthread_sigmask(signal.SIG_SETMASK, mask)
-            return become(words)
+            return become(command)
 
         self.process = forked(begin)
 
     def failed(self) -> Optional[int]:
         """Waits until the link is ready, and returns None. If hinge-link ends early, after it printed the reason, returns its
         status. If a signal arrives, ends hinge-link and returns the signal's status."""
-        came = self.processes.poll(
-            lambda: self.page.head("state") != STARTING or self.process in self.processes.ended, math.inf, POLL
-        )
-        fault = SIGNALLED + came if came else self.processes.ended.get(self.process)
-        if fault is not None:
+        ended = self.processes.ended
+        number = self.processes.poll(lambda: self.page.head("state") != STARTING or self.process in ended, math.inf, POLL)
+        status = SIGNALLED + number if number else ended.get(self.process)
+        if status is not None:
             self.end()
-        return fault
+        return status
 
     def end(self) -> None:
         """Ends hinge-link and closes the control socket."""

@@ -30,7 +30,7 @@ def socket_of(text: str) -> str:
 
 def running() -> str:
     """Returns words with the names of this user's runs, for the end of an error's message."""
-    from hinge.border.asking import is_answered  # which a wrong name alone needs
+    from hinge.border.asking import is_answered  # imported here, since only a wrong name needs the module
 
     names = sorted(os.listdir(own_folder())) if os.path.isdir(folder_of_names()) else []
     names = [name for name in names if is_answered(os.path.join(own_folder(), name))]
@@ -39,11 +39,11 @@ def running() -> str:
 
 def own_folder() -> str:
     """Returns the existing folder for names. Wrong: the folder belongs to another user, who could answer in the run's place."""
-    place = folder_of_names()
-    result = os.lstat(place)
-    if not stat.S_ISDIR(result.st_mode) or result.st_uid != os.geteuid():
-        raise Wrong(f"{place}: it is another user's")
-    return place
+    folder = folder_of_names()
+    status = os.lstat(folder)
+    if not stat.S_ISDIR(status.st_mode) or status.st_uid != os.geteuid():
+        raise Wrong(f"{folder}: it is another user's")
+    return folder
 
 
 def new_socket(name: str) -> str:

@@ -8,8 +8,8 @@ from typing import Iterator, Optional
 from hinge.captures.rule_words import EVERY_PORT, BadRule, Net, PortSpan, parted, short_of
 from hinge.run.words import Target, Wrong
 
-MAPPED = 0xFFFF << 32  # where IPv4 lies in the addresses of IPv6
-EVERYWHERE = "0" * 32 + " " + "0" * 32
+MAPPED = 0xFFFF << 32  # the bits before an IPv4 address within an IPv6 address
+EVERYWHERE = "0" * 32 + " " + "0" * 32  # an address and a mask that match all addresses
 ENDS = (("src", "dst"), ("sport", "dport"))
 
 
@@ -23,13 +23,13 @@ def net_words(net: Optional[Net]) -> str:
     return f"{address:032x} {mask:032x}"
 
 
-def narrower(one: Optional[Net], other: Net) -> Optional[Net]:
+def narrower(first: Optional[Net], second: Net) -> Optional[Net]:
     """Returns the network that two networks share, or None if they are disjoint; a first network None contains all addresses."""
-    if one is None:
-        return other
-    if one.version != other.version or not one.overlaps(other):
+    if first is None:
+        return second
+    if first.version != second.version or not first.overlaps(second):
         return None
-    return one if one.prefixlen >= other.prefixlen else other
+    return first if first.prefixlen >= second.prefixlen else second
 
 
 class Rule:
@@ -41,39 +41,44 @@ class Rule:
             self.short = short_of(words)
         except BadRule as bad:
             raise Wrong(f"--map {text}: {bad}") from None
-        self.target, self.way = Target(*target), self.short.way
+        self.target = Target(*target)
+        self.way = self.short.way
 
     def nets(self) -> Iterator[tuple[Optional[Net], Optional[Net]]]:
         """Yields the networks of the source and the destination. If the rule contains `host`, which matches either end, yields a
         pair for each end."""
-        inputs, host = self.short.nets, self.short.nets.get("host")
+        nets = self.short.nets
+        host = nets.get("host")
         if host is None:
-            yield inputs.get("src"), inputs.get("dst")
+            yield nets.get("src"), nets.get("dst")
             return
         for end in ENDS[0]:
-            both = {**inputs, end: narrower(inputs.get(end), host)}
-            if both[end] is not None:
-                yield both.get("src"), both.get("dst")
+            shared = narrower(nets.get(end), host)
+            if shared is not None:
+                pair = {**nets, end: shared}
+                yield pair.get("src"), pair.get("dst")
 
     def spans(self) -> Iterator[tuple[PortSpan, PortSpan]]:
         """Yields the ports of the source and the destination. If the rule contains `port`, which matches either end, yields a pair
         for each end."""
-        inputs = {end: self.short.ports.get(end, EVERY_PORT) for end in ENDS[1]}
-        either = self.short.ports.get("port")
-        if either is None:
-            yield inputs["sport"], inputs["dport"]
+        spans = {end: self.short.ports.get(end, EVERY_PORT) for end in ENDS[1]}
+        port = self.short.ports.get("port")
+        if port is None:
+            yield spans["sport"], spans["dport"]
             return
         for end in ENDS[1]:
-            both = inputs[end].both(either)
-            if both is not None:
-                ends = {**inputs, end: both}
-                yield ends["sport"], ends["dport"]
+            shared = spans[end].both(port)
+            if shared is not None:
+                pair = {**spans, end: shared}
+                yield pair["sport"], pair["dport"]
 
     def lines(self, way: int) -> list[str]:
         """Returns the plan's lines that together mean this rule, for packets of a way (one direction of a link)."""
-        head = f"map {way} {int(self.target.kind == 'queue')} {self.target.number}"
-        dscp = -1 if self.short.dscp is None else self.short.dscp
+        kind = 1 if self.target.kind == "queue" else 0
+        dscp = -1 if self.short.dscp is None else self.short.dscp  # -1 means any
+        protocols = self.short.protocols or (-1,)
         return [
-            f"{head} {protocol} {dscp} {net_words(src)} {net_words(dst)} {sport.low} {sport.high} {dport.low} {dport.high}"
-            for protocol, (src, dst), (sport, dport) in product(self.short.protocols or (-1,), self.nets(), self.spans())
+            f"map {way} {kind} {self.target.number} {protocol} {dscp} {net_words(src)} {net_words(dst)}"
+            f" {sport.low} {sport.high} {dport.low} {dport.high}"
+            for protocol, (src, dst), (sport, dport) in product(protocols, self.nets(), self.spans())
         ]

@@ -9,8 +9,8 @@ from hinge.border.files import is_beside
 from hinge.outputs import is_file, is_planted, place
 from hinge.run.words import Wrong
 
-KEPT = "/run/kept"  # in a simulated machine: what outlives it, which the launcher tells of
-AUDITED = 268_435_456  # bytes: the most that an audit reads without being told
+KEPT = "/run/kept"  # a folder in a simulated machine; the launcher copies its files at the end, and reports them
+AUDITED = 268_435_456  # the most bytes that an audit reads without an option
 
 
 def refuse_own_input(option: str, path: Optional[str], others: Iterable[Optional[str]]) -> None:
@@ -30,11 +30,8 @@ def refuse_lost(option: str, path: Optional[str], others: Iterable[Optional[str]
     refuse_own_input(option, path, others)
     if path is None or path == "-":
         return
-    if (
-        os.path.isdir(path)
-        or is_planted(path)
-        or not os.access(path if os.path.exists(path) else os.path.dirname(path) or ".", os.W_OK)
-    ):
+    place_to_write = path if os.path.exists(path) else os.path.dirname(path) or "."
+    if os.path.isdir(path) or is_planted(path) or not os.access(place_to_write, os.W_OK):
         raise Wrong(f"{option} {path}: it can't be written")
 
 
@@ -45,10 +42,12 @@ def parts_of(transcript: str, count: int) -> list[str]:
 
 def files_of(transcript: str) -> list[str]:
     """Returns the existing files of a transcript, and always the first, whose absence a reader reports."""
-    result = [transcript]
-    while is_beside(following := f"{transcript}.{len(result)}"):
-        result.append(following)
-    return result
+    files = [transcript]
+    following = f"{transcript}.1"
+    while is_beside(following):
+        files.append(following)
+        following = f"{transcript}.{len(files)}"
+    return files
 
 
 def told(transcript: str, count: int) -> Iterator[str]:
@@ -56,9 +55,10 @@ def told(transcript: str, count: int) -> Iterator[str]:
     options."""
     parts = [] if transcript.startswith(f"{KEPT}/") else parts_of(transcript, count)
     if len(parts) > 1:
-        some = f"{parts[0]}, {parts[1]}{' ..' if count > 2 else ''}"
-        yield f"the transcript is in {count} files, of which each is audited by itself: {some}"
+        first_files = f"{parts[0]}, {parts[1]}" + (" .." if count > 2 else "")
+        yield f"the transcript is in {count} files, of which each is audited by itself: {first_files}"
     for part in parts:
-        if os.path.exists(part) and (size := os.path.getsize(part)) > AUDITED:
+        size = os.path.getsize(part) if os.path.exists(part) else 0
+        if size > AUDITED:
             audit = f"dummynet audit --most-history {size} {part}"
             yield f"{part} has {size} bytes, since the link was never idle; its audit: {audit}"

@@ -7,7 +7,8 @@ from typing import NamedTuple
 
 from hinge.run.words import Wrong
 
-MOST_BITS, FEWEST_BITS = 30, 8  # of a network that has two hosts, and of one that leaves others
+MOST_BITS = 30  # the longest prefix of a network with two hosts
+FEWEST_BITS = 8  # the shortest prefix, which leaves other networks
 
 
 class Ends(NamedTuple):
@@ -18,7 +19,7 @@ class Ends(NamedTuple):
     client6: str
     server6: str
     network: str
-    bits: int  # of the addresses of IPv4 that are the network's
+    bits: int  # the length of the IPv4 network's prefix
 
     def names(self) -> str:
         """Returns lines for /etc/hosts."""
