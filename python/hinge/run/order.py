@@ -15,7 +15,7 @@ from hinge.run.processes import Ended, Mask
 from hinge.run.settings import LiveOptions, RecordOptions
 from hinge.run.summary import VOID, line, record
 from hinge.run.system import is_simulated
-from hinge.run.transcripts import told
+from hinge.run.transcripts import lines_about_files
 from hinge.run.verdict import Waits, verdict
 from hinge.run.words import duration
 
@@ -41,7 +41,7 @@ class Order(NamedTuple):
     mask: Mask  # the signals that started programs block
     server_wait: float  # s until the server has to listen
     server_end: float  # s until the server has to end after SIGTERM
-    made: Plan
+    link_plan: Plan  # the object that wrote the text, and to which `hinge change` adds
 
     def control(self, page: Page, status: Callable[[], Record], enter: Optional[Enter] = None) -> Optional[Control]:
         """Opens the socket from --control and returns the object that answers there; None without the option."""
@@ -50,8 +50,8 @@ class Order(NamedTuple):
         from hinge.run.control import Control  # which other runs don't load, as they start sooner
 
         if enter is None:
-            return Control(self.options.control, self.made, page, self.made.read, status)
-        return Control(self.options.control, self.made, page, self.made.read, status, enter)
+            return Control(self.options.control, self.link_plan, page, self.link_plan.read, status)
+        return Control(self.options.control, self.link_plan, page, self.link_plan.read, status, enter)
 
 
 def order_of(options: LiveOptions, longest: int, mask: Mask, server_wait: str = "0", server_end: str = "0") -> Order:
@@ -84,7 +84,7 @@ def report(
     the packets that the system dropped before each way (one direction of the link)."""
     counts = page.read()
     lateness = waits.over if waits else lambda limit: []  # of programs that waited for a processor
-    awaited = order.made.awaited()
+    awaited = order.link_plan.awaited()
     may_be_late = waits is not None
     faults, warnings = verdict(counts, drops, order.plan, order.limit, lateness, awaited=awaited, may_be_late=may_be_late)
     lines = [line(counts, drops)]
@@ -99,17 +99,17 @@ def report(
         summary["server"] = server._asdict()
     if waits:
         summary |= {"late_limit_ms": order.limit, "waited_ms": waits.record()}
-    return told_status(order.options, lines, counts["parts"], summary, status, say)
+    return finish_report(order.options, lines, counts["parts"], summary, status, say)
 
 
-def told_status(
+def finish_report(
     options: RecordOptions, lines: Iterable[str], parts: int, record: dict[str, Any], status: int, tell: Callable[[str], None]
 ) -> int:
     """Prints the summary's lines through `tell`, and writes the record into the --json file. Returns VOID for a void run, otherwise
     the status, or FILES if the status is 0 but the file can't be written."""
     texts = [*lines]
     if options.transcript:
-        texts += told(options.transcript, parts)
+        texts += lines_about_files(options.transcript, parts)
     texts += [f"void: {fault}" for fault in record["void"]]
     for text in texts:
         tell(text)

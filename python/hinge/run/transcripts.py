@@ -50,7 +50,7 @@ def files_of(transcript: str) -> list[str]:
     return files
 
 
-def told(transcript: str, count: int) -> Iterator[str]:
+def lines_about_files(transcript: str, count: int) -> Iterator[str]:
     """Yields lines for the user about a transcript in several files, and about files that are too large for an audit without
     options."""
     parts = [] if transcript.startswith(f"{KEPT}/") else parts_of(transcript, count)
