@@ -139,7 +139,7 @@ class Changes:
         """Yields the outages, each as a pipe, a start and an end in ns."""
         return ((pipe, begin, end) for pipe, holds in self.held().items() for begin, end in holds)
 
-    def of_held(self, pipe: int, holds: Iterable[tuple[int, int]]) -> Iterator[Change]:
+    def outage_changes(self, pipe: int, holds: Iterable[tuple[int, int]]) -> Iterator[Change]:
         """Yields a change for the beginning of each outage of a pipe."""
         text = f"outage {pipe} {self.longest}"
         return (Change(begin, text) for begin, _ in holds)
@@ -148,5 +148,5 @@ class Changes:
         """Returns all changes, sorted by moment. At the same moment, an outage comes after other changes."""
         by_moment = itemgetter(0)
         parts = (sorted(part, key=by_moment) if isinstance(part, list) else part for part in self.in_order())
-        outages = (self.of_held(pipe, holds) for pipe, holds in self.held().items())
+        outages = (self.outage_changes(pipe, holds) for pipe, holds in self.held().items())
         return merge(*parts, *outages, key=by_moment)

@@ -7,43 +7,23 @@ second link uses ways 2 and 3 and pipes 3 and 4, and so on. The words for a link
 from __future__ import annotations
 
 import gc
-import os
 import re
-import shlex
 from collections import Counter
 from contextlib import contextmanager
 from io import StringIO
 from typing import TYPE_CHECKING, Iterable, Iterator, Optional, Sequence
 
 from hinge.arguments import is_number
-from hinge.border.files import untrusted
-from hinge.events.forms import CHANGES, line_meant
-from hinge.run.changes import Bandwidths, Change, Changes, Happening, Outage, refuse_second
+from hinge.run.changes import Bandwidths, Change, Changes, Happening, Outage
 from hinge.run.options import MOST
 from hinge.run.traces import MAHIMAHI_BYTES, MOST_BINS, MS, Moments, counted, read_trace, spelled
 from hinge.run.verdict import Awaited
-from hinge.run.words import (
-    SECOND,
-    Target,
-    Wrong,
-    bare,
-    configures,
-    duration,
-    is_line,
-    of_link,
-    placed,
-    read_as_change,
-    read_lines,
-    read_once,
-    target_of,
-    with_bandwidth,
-)
+from hinge.run.words import Target, Wrong, bare, configures, of_link, placed, read_once, target_of, with_bandwidth
 from hingetulip_words.link import Extra, LinkWords, Place, WordError, refusal_of_change
 from hingetulip_words.values import SHARES
 
 if TYPE_CHECKING:
     from hinge.events.kinds import Event, NewWords, TimedEvent
-    from hinge.fault_lines import Act, Fault
 
 TRACE_BIN = 100 * 10**6  # ns
 LAST_PIPE = 65535
@@ -190,65 +170,10 @@ class Plan:
             self.remarks.write(f"remark asked,{option},{number},{text}\n")
 
     def faults(self, path: str, names: Iterable[str], is_net: bool = False) -> None:
-        """Adds the faults in a file, which then decide all losses. `names` lists the ways' names in order; `is_net` tells that the
-        ways are a net's. Wrong: a line isn't a fault, or names another link, or an act that belongs elsewhere."""
-        from hinge.fault_lines import faults_in
+        """Adds the faults in a file; see `add_faults`."""
+        from hinge.run.plan_faults import add_faults
 
-        by_names: dict[str, list[Fault]] = {name: [] for name in names}
-        try:
-            faults = faults_in(path, self.noted("--faults", read_lines(path)))
-            for fault in faults.packets:
-                if fault.link not in by_names:
-                    raise ValueError(f"{path}: '{fault}': no such link; write {' or '.join(list(by_names)[:2])}")
-                by_names[fault.link].append(fault)
-            names_for_acts = [] if is_net else list(by_names)
-            for act in faults.acts:
-                self.add_act(path, act, names_for_acts)
-        except ValueError as error:
-            raise Wrong(str(error)) from None
-        for way, way_faults in enumerate(by_names.values()):
-            self.add_packet_faults(way, sorted(way_faults))
-
-    def add_act(self, path: str, act: Act, names: Sequence[str]) -> None:
-        """Adds a cut or a hold of a way; the first of `names` is the way up. ValueError: the act isn't a cut or a hold of a way in
-        `names`, which is empty for a net, whose file has lines `at` for acts."""
-        from hinge.events.link_words import link_event
-        from hinge.fault_lines import CUT, HOLD, spelled as spelled_time
-
-        if act.kind not in (CUT, HOLD) or act.of not in names:
-            advice = f"`at {spelled_time(act.moment)} cut {names[0]} 2s` or `hold`" if names else "it as a line `at` of the net"
-            raise ValueError(f"{path}: '{act}': no cut or hold of a link; write {advice}")
-        way = "up" if act.of == names[0] else "down"
-        lossy = " lossy" if act.kind == CUT else ""
-        event = link_event(f"{way} outage {spelled_time(act.seconds)}{lossy}", path)
-        self.add_event(event, round(act.moment * SECOND), str(act))
-
-    def add_packet_faults(self, way: int, faults: Sequence[Fault]) -> None:
-        """Adds a way's faults of packets. If a packet is late, all other packets make a second pass without a delay, so that each
-        packet passes the same number of pipes. Wrong: a loss model already decides about the way's packets."""
-        from hinge.fault_lines import IS_LATE, IS_LOST, IS_TWICE
-
-        model = self.decided.get(way, "list")
-        if model not in ("list", "faults"):
-            if faults:
-                raise Wrong(f"'{faults[0]}': {model} decides about each packet of that way; leave one of them out")
-            return
-        self.chosen += [(way, fault.packet) for fault in faults]
-        lost = [fault.packet for fault in faults if fault.kind == IS_LOST]
-        twice = [fault.packet for fault in faults if fault.kind == IS_TWICE]
-        late = {fault.packet: fault.ms for fault in faults if fault.kind == IS_LATE}
-        extra, pipes = self.extras.get(way, (Extra(), []))
-        delays = {*late.values()}
-        if late and not pipes:
-            delays.add(0)  # for all other packets
-        pipe_of_delay = dict(zip(sorted(delays), self.second_pipes(sorted(delays))))
-        self.extras[way] = extra, [*pipes, *pipe_of_delay.values()]
-        self.decided[way] = "faults"
-        if twice:
-            self.copied.add(way)
-        self.rest.append(f"list {way} {' '.join(map(str, lost))}")
-        self.rest += [f"fault {way} 1 {packet} 1" for packet in twice]
-        self.rest += [f"fault {way} 2 {packet} {pipe_of_delay[delay]}" for packet, delay in late.items()]
+        add_faults(self, path, names, is_net)
 
     def add_event(self, event: Event, moment: int, text: str) -> None:
         """Adds an event of a run at a moment in ns; `text` names the event in the run's verdict."""
@@ -398,45 +323,10 @@ class Plan:
 
     @uncollected()
     def timeline(self, path: str) -> None:
-        """Adds the changes in a file of lines such as `5s 1Mbit/s 20ms`. Wrong: the file contains no change, a wrong line, or two
-        configurations of a pipe at the same moment; or `path` consists of such lines."""
-        from hinge.checks.lines import refuse_wrong
-        from hinge.events.link_words import link_event
+        """Adds the changes in a file; see `add_timeline`."""
+        from hinge.run.timelines import add_timeline
 
-        if " " in path.strip() and not os.path.exists(path):
-            raise Wrong(f"--timeline is a file of lines: {self.as_file(path)}, and --timeline changes")
-        with untrusted(path):
-            number_of_line = dict[str, int]()  # of each configuration line, the number where it stands first
-            subjects = set[tuple[int, str, int]]()  # of the changes so far
-            is_empty = True
-            for number, line in enumerate(self.noted("--timeline", read_lines(path)), 1):
-                word, _, text = bare(line).partition(" ")
-                count = len(self.changes.lines)
-                if not word:
-                    continue
-                is_empty = False
-                with placed(f"{path} line {number}"), read_as_change(bare(line)):
-                    moment = duration(word)
-                    if is_line(text):
-                        number_of_line.setdefault(text, number)
-                    self.add_event(link_event(text, word), moment, bare(line))
-                    refuse_second(self.changes.lines[count:], subjects)
-            if is_empty:
-                raise Wrong(f"{path}: no line of a change (example: 5s 1Mbit/s 20ms)")
-            refuse_wrong([*number_of_line], [*number_of_line.values()], path)
-
-    def as_file(self, text: str) -> str:
-        """Returns a shell command that writes the lines in a text into a file, as advice to a user who wrote these lines in place
-        of the file's name. Commas or semicolons part the lines. Wrong: a line isn't a change."""
-        from hinge.events.link_words import link_event
-
-        parts = [line_meant(bare(part), CHANGES) or bare(part) for part in re.split("[,;]", text)]
-        try:
-            for word, _, words in (part.partition(" ") for part in parts):
-                self.happenings(link_event(words, word), duration(word), self.changes)
-        except Wrong:
-            raise Wrong("--timeline is a file of lines as 5s outage 2s (hinge docs LINKS)") from None
-        return f"printf '%s\\n' {shlex.join(parts)} >changes"
+        add_timeline(self, path)
 
     def is_shared(self, pipe: int) -> bool:
         """Returns whether a pipe has queues or a mask, so that its packets may start in another order than they arrived."""
