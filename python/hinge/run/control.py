@@ -120,13 +120,13 @@ class Control:
         self.add_remark(f"change,{words}")
         if words.split()[0] in LINK_WORDS:
             self.add_remark(f"act,{words}")
-        return self.followed(changes, moment)
+        return self.apply(changes, moment)
 
     def add_remark(self, text: str) -> None:
         """Adds a remark to the transcript."""
         self.lines.ask(f"line remark {text}", self.until, self.is_wanted)
 
-    def followed(self, changes: list[Change], moment: int) -> list[ObeyedLine]:
+    def apply(self, changes: list[Change], moment: int) -> list[ObeyedLine]:
         """Sends changes to the host, and returns the host's answers, without those to heals that ended no cut. A cut and its end
         form a single line, so that no cut stays without an end. Wrong: all changes are heals, and none ended a cut."""
         end_of_cut = {change.line.partition(" ")[2]: change.moment for change in changes if change.line.startswith("open ")}
@@ -137,7 +137,7 @@ class Control:
             if words[0] == "cut" and cut in end_of_cut:
                 replies += self.cut_for(change.line, end_of_cut[cut] - moment)
             elif words[0] != "open":
-                replies.append(self.asked_of_host(self.plan.lossy(change.line), change.moment - moment))
+                replies.append(self.apply_line(self.plan.lossy(change.line), change.moment - moment))
         useful = [reply for reply in replies if reply.refused or not reply.line.startswith("heal ")]
         if changes and not useful and all(change.line.startswith("heal ") for change in changes):
             raise Wrong("heal: no cut of such a link goes on")
@@ -159,7 +159,7 @@ class Control:
             raise Wrong(answer.wrong)
         return answer.moment
 
-    def asked_of_host(self, line: str, later: int = 0) -> ObeyedLine:
+    def apply_line(self, line: str, later: int = 0) -> ObeyedLine:
         """Makes the host apply a line after `later` ns. Returns the line that the pipe then has, unless another change comes first,
         or the reason for the host's refusal."""
         request = f"at {later} {line}" if later else f"line {line}"

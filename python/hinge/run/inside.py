@@ -77,7 +77,7 @@ class Inside:
         if not is_simulated():
             self.waits.look(self.cgroups.made, self.started)
 
-    def started_server(self) -> tuple[Optional[int], Optional[int]]:
+    def start_server(self) -> tuple[Optional[int], Optional[int]]:
         """Starts the server, if there is one, and waits until the server listens or ends, or the time for this is over. Returns the
         server's process, and a signal that arrived first, if any. Prints a line if the server doesn't listen."""
         if not self.options.server:
@@ -93,7 +93,7 @@ class Inside:
                 say(f"the server doesn't listen after {self.order.server_wait:g} s; the command begins")
         return server, number
 
-    def commanded(self, link: Link) -> tuple[int, bool]:
+    def run_command(self, link: Link) -> tuple[int, bool]:
         """Runs the command while the link is up; without a command, waits for a signal or the link's end. Returns the command's
         status, and whether the wait was interrupted before the command's own end."""
         watch = Watch(self.page) if self.options.watch else None
@@ -134,7 +134,7 @@ class Inside:
 
         self.processes.poll(look_at_counts, LAST_PACKETS, QUIET_POLL)
 
-    def ended_server(self, server: int, is_interrupted: bool) -> Ended:
+    def end_server(self, server: int, is_interrupted: bool) -> Ended:
         """Ends the server and returns how it ended; prints a warning if the server failed or had to be killed."""
         self.processes.reap()
         status = self.processes.ended.get(server, 0)
@@ -164,17 +164,17 @@ class Inside:
     def run(self) -> int:
         """Runs the programs and removes their cgroups; returns the run's status."""
         try:
-            return self.whole_run()
+            return self.run_programs()
         finally:
             self.cgroups.remove()
 
-    def whole_run(self) -> int:
+    def run_programs(self) -> int:
         """Starts the server, the link and the command, ends them, and reports the run; returns the run's status."""
         order = self.order
         if self.outside:  # before the server has mounts of its own
             has_ipv6 = self.outside.join(self.rooms.server, [NAME], [self.rooms.ends.client6])
             self.rooms.lead_out(has_ipv6)
-        server, number = self.started_server()
+        server, number = self.start_server()
         if number:
             return SIGNALLED + number
         if self.ports:  # after the server, since these sockets would look as if the server listened
@@ -186,8 +186,8 @@ class Inside:
         if fault is not None:
             return fault
         note_realtime(self.page)
-        status, is_interrupted = self.commanded(link)
-        ending = None if server is None else self.ended_server(server, is_interrupted)
+        status, is_interrupted = self.run_command(link)
+        ending = None if server is None else self.end_server(server, is_interrupted)
         link.end()
         drops = self.rooms.dropped()
         if self.joined:

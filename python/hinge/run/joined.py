@@ -221,5 +221,7 @@ def process_of(name: str) -> str:
             return process
     if len(faults) == len(engines):
         raise Missing(f"--container {name}: {'; '.join(faults) or NONE}")
-    run = f"write one of {', '.join(others)}" if others else f"none runs for this user; write {engines[-1]} run before it, or sudo"
-    raise Wrong(f"--container {name}: no container or image of this name runs; {run}")
+    advice = (
+        f"write one of {', '.join(others)}" if others else f"none runs for this user; write {engines[-1]} run before it, or sudo"
+    )
+    raise Wrong(f"--container {name}: no container or image of this name runs; {advice}")

@@ -15,9 +15,9 @@ class Family(NamedTuple):
     """Describes a metric, and the key of its value in the record of a way (one direction of a link)."""
 
     name: str
-    kind: str
+    kind: str  # counter, gauge or summary
     unit: str
-    key: str
+    key: str  # in the record
     help: str
 
 

@@ -25,9 +25,9 @@ from hingetulip_words.values import SHARES
 if TYPE_CHECKING:
     from hinge.events.kinds import Event, NewWords, TimedEvent
 
-TRACE_BIN = 100 * 10**6  # ns
+TRACE_BIN = 100 * 10**6  # ns, unless --bin sets a length
 LAST_PIPE = 65535
-FIRST_BEHIND_MAIN = 2**31  # the number of the first cut by a moment of the main command
+FIRST_BEHIND_MAIN = 2**31  # the number of the first cut whose moment counts from the main command's start
 
 
 @contextmanager
@@ -44,7 +44,9 @@ def uncollected() -> Iterator[None]:
 
 def pipes_of_queue(line: str) -> list[str]:
     """Returns the number of the pipe that a queue's line names; an empty list for other lines."""
-    return re.findall(r"\bpipe (\d+)\b", line) if re.match("(ipfw )?queue ", line) else []
+    if not re.match("(ipfw )?queue ", line):
+        return []
+    return re.findall(r"\bpipe (\d+)\b", line)
 
 
 class Plan:
@@ -64,9 +66,8 @@ class Plan:
         self.longest = longest
         self.changes = Changes(longest)  # their moments count from the links' start
         self.behind_main = Changes(longest, FIRST_BEHIND_MAIN)  # their moments count from the main command's start
-        self.extras: dict[
-            int, tuple[Extra, list[int]]
-        ] = {}  # by ways, jitter and so on, and the second pass's pipes (jitter's first)
+        # By ways: jitter and so on, and the pipes of the second pass, of which jitter's are the first.
+        self.extras: dict[int, tuple[Extra, list[int]]] = {}
         self.copied: set[int] = set()  # the ways that packets may enter twice
         self.losses: dict[int, str] = {}  # by ways, the last loss rate in the words of the command line or of a change
         self.queues_without_loss: set[Target] = set()  # the queues that have a line without `plr`
@@ -113,7 +114,7 @@ class Plan:
         if reason:
             raise Wrong(f"'{event.words}': {reason}")
 
-    def take(self, line: str) -> None:
+    def note_line(self, line: str) -> None:
         """Notes a queue's line without `plr`, or a pipe's line with a mask, and counts each pipe's lines of queues. Wrong: a way
         whose words contain a loss sends packets to the queue, or an outage delays the pipe's packets."""
         target = target_of(line)
@@ -219,7 +220,7 @@ class Plan:
             target = target_of(line)
             self.queues_of_pipe.subtract(pipes_of_queue(self.current.get(target, "")))
             self.current[target] = line
-            self.take(line)
+            self.note_line(line)
 
     def way_of(self, target: Target) -> Optional[int]:
         """Returns the way whose packets enter a pipe, or a queue's pipe; None for a pipe that belongs to no way."""
@@ -287,7 +288,7 @@ class Plan:
 
         if isinstance(event, NewLine):
             line = of_link(event.line, event.ways[0] // 2)
-            self.take(line)
+            self.note_line(line)
             return [Change(moment, line)]
         if isinstance(event, NewWords):
             return self.new_words(event, moment)
@@ -312,7 +313,7 @@ class Plan:
         for way, words in zip(event.ways, event.links):
             self.note_loss(way, words)
             self.refuse_left_out(way, words, event)
-            self.take(words.line(way + 1))
+            self.note_line(words.line(way + 1))
         return [Change(moment, words.line(way + 1)) for way, words in sorted(zip(event.ways, event.links))]
 
     def read(self, words: str, moment: int) -> list[Happening]:

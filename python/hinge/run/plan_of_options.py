@@ -131,7 +131,7 @@ def lines_of(options: LinkOptions, numbered: Iterable[Numbered]) -> list[str]:
         inputs.append(line)
         numbers.append(number)
     if inputs:
-        from hinge.checks.lines import refuse_wrong  # as in plan.py, what few runs need is loaded where it is needed
+        from hinge.checks.lines import refuse_wrong  # imported here, since few runs need the module
 
         refuse_wrong(inputs, numbers, options.config or "", "--line")
     targets = {target_of(bare(line)) for line in inputs}

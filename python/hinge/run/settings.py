@@ -33,7 +33,7 @@ class LinkOptions(Options):
     bin: Optional[str]
     trace_for: Optional[str]
     loss: Sequence[str]
-    more_files: Sequence[str]  # from which some of the lines were read
+    more_files: Sequence[str]  # other files that contained some of the lines
 
     def files(self) -> Sequence[Optional[str]]:
         """Returns the paths of all input files; None stands for an option without a file."""
@@ -41,8 +41,8 @@ class LinkOptions(Options):
 
     def has_link(self) -> bool:
         """Returns whether any option describes the link."""
-        words = (self.up, self.down, self.preset, *self.files(), *self.line, *self.map, *self.loss)
-        return any(one is not None for one in words)
+        values = (self.up, self.down, self.preset, *self.files(), *self.line, *self.map, *self.loss)
+        return any(value is not None for value in values)
 
 
 class RecordOptions(Options):
@@ -68,19 +68,19 @@ class SimulatedOptions(RecordOptions):
     """Holds the options of commands that can run in simulated time."""
 
     simulated: bool
-    twice: bool
-    scratch: bool
-    at: Optional[int]  # s since 1970
+    twice: bool  # whether two runs are compared
+    scratch: bool  # whether written files are lost, except the transcript and the summary
+    at: Optional[int]  # the clock's first reading, in s since 1970
     memory: Optional[int]  # bytes
     cpu: Optional[str]
-    kept: Optional[str]
-    real_limit: Optional[str]
-    limit: Optional[str]  # of simulated time
-    root: Optional[str]  # a folder
+    kept: Optional[str]  # the folder that is /run/kept in the machine
+    real_limit: Optional[str]  # the most real time
+    limit: Optional[str]  # the most simulated time
+    root: Optional[str]  # the folder that programs find at /
     pauses: Optional[str]
-    clean_env: bool
+    clean_env: bool  # whether programs get only a few variables
     like: Optional[str]  # an earlier run's summary
-    mtu: int
+    mtu: int  # bytes
     command: list[str]
 
     def leads_outside(self) -> bool:
@@ -91,17 +91,18 @@ class SimulatedOptions(RecordOptions):
 class RunOptions(SimulatedOptions, LiveOptions):
     """Holds the options of `hinge run`."""
 
-    net: Optional[str]
-    netns: Optional[str]
+    net: Optional[str]  # the network of both hosts
+    netns: Optional[str]  # a process in an existing network, or the network's path
     container: Optional[str]
-    server: Optional[str]
-    server_wait: str
-    server_end: str
+    server: Optional[str]  # the server's command
+    server_wait: str  # how long the command waits until the server listens
+    server_end: str  # how long the server has to end after SIGTERM
     outside: bool
     outside_loopback: bool
     to: Sequence[int]  # ports of this system
 
     def leads_outside(self) -> bool:
+        """Returns whether an option connects a host to the system's network."""
         return self.outside or self.outside_loopback or bool(self.to)
 
 
@@ -120,4 +121,5 @@ class NetOptions(SimulatedOptions):
     dry_run: bool
 
     def leads_outside(self) -> bool:
+        """Returns whether an option connects a host to the system's network."""
         return bool(self.outside or self.outside_loopback)

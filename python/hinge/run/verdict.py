@@ -194,4 +194,4 @@ def waited_of(process: int) -> Optional[float]:
     try:
         return int(read_text(f"/proc/{process}/schedstat").split()[1]) / 1e6
     except (OSError, IndexError, ValueError):
-        return None  # it has ended, or the system doesn't tell
+        return None  # the process has ended, or the system doesn't report the time

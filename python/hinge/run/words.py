@@ -78,11 +78,11 @@ def duration(text: str, option: str = "") -> int:
 
 def length_of(text: str, option: str = "") -> int:
     """Returns the ns of a length of time. Wrong: the text isn't a time, or the time is 0 ns; `option` begins the message."""
-    result = duration(text, option)
-    if not result:
+    length = duration(text, option)
+    if not length:
         place = f"{option} {text}".lstrip()
         raise Wrong(f"{place}: nothing happens in no time; write a duration above 0 (example: 600ms)")
-    return result
+    return length
 
 
 def bytes_of_mtu(text: str) -> int:
