@@ -71,18 +71,18 @@ class Link:
         self.processes = processes
         self.page = page
         self.control = control
-        inherited = [*descriptors, page.descriptor]
+        descriptors_to_keep = [*descriptors, page.descriptor]
         if control:
             lines = control.lines
         if lines:
             plan += lines.line()
-            inherited.append(lines.descriptor())
+            descriptors_to_keep.append(lines.descriptor())
         plan_descriptor = plan_file(plan)
         command = [program(), *words, str(page.descriptor)]
 
         def begin() -> int:
             os.dup2(plan_descriptor, 0)
-            for descriptor in inherited:
+            for descriptor in descriptors_to_keep:
                 os.set_inheritable(descriptor, True)
             signal.pthread_sigmask(signal.SIG_SETMASK, mask)
             return become(command)
@@ -92,9 +92,9 @@ class Link:
     def failed(self) -> Optional[int]:
         """Waits until the link is ready, and returns None. If hinge-link ends early, after it printed the reason, returns its
         status. If a signal arrives, ends hinge-link and returns the signal's status."""
-        ended = self.processes.ended
-        number = self.processes.poll(lambda: self.page.head("state") != STARTING or self.process in ended, math.inf, POLL)
-        status = SIGNALLED + number if number else ended.get(self.process)
+        statuses = self.processes.ended
+        number = self.processes.poll(lambda: self.page.head("state") != STARTING or self.process in statuses, math.inf, POLL)
+        status = SIGNALLED + number if number else statuses.get(self.process)
         if status is not None:
             self.end()
         return status

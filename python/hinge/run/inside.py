@@ -77,18 +77,18 @@ class Inside:
         if not is_simulated():
             self.waits.look(self.cgroups.made, self.started)
 
-    def start_server(self) -> tuple[Optional[int], Optional[int]]:
+    def begin_server(self) -> tuple[Optional[int], Optional[int]]:
         """Starts the server, if there is one, and waits until the server listens or ends, or the time for this is over. Returns the
         server's process, and a signal that arrived first, if any. Prints a line if the server doesn't listen."""
         if not self.options.server:
             return None, None
         server = self.start(HOSTS[1], ["sh", "-c", self.options.server])
-        ended = self.processes.ended
+        statuses = self.processes.ended
         enter(self.rooms.server)
-        number = self.processes.poll(lambda: something_listens() or server in ended, self.order.server_wait, LISTEN_POLL)
+        number = self.processes.poll(lambda: something_listens() or server in statuses, self.order.server_wait, LISTEN_POLL)
         if number is None:
-            if server in ended:
-                say(f"the server ended with {name_of(ended[server])} before it listened")
+            if server in statuses:
+                say(f"the server ended with {name_of(statuses[server])} before it listened")
             elif not something_listens():
                 say(f"the server doesn't listen after {self.order.server_wait:g} s; the command begins")
         return server, number
@@ -174,7 +174,7 @@ class Inside:
         if self.outside:  # before the server has mounts of its own
             has_ipv6 = self.outside.join(self.rooms.server, [NAME], [self.rooms.ends.client6])
             self.rooms.lead_out(has_ipv6)
-        server, number = self.start_server()
+        server, number = self.begin_server()
         if number:
             return SIGNALLED + number
         if self.ports:  # after the server, since these sockets would look as if the server listened

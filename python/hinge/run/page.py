@@ -88,8 +88,8 @@ class Way:
 
 def with_uncounted(bins: tuple[int, ...], moment: int) -> tuple[int, ...]:
     """Returns a histogram of ns, whose first bin also contains the ns until `moment` that no bin contains."""
-    uncounted = max(0, moment - sum(bins))
-    return (bins[0] + uncounted, *bins[1:])
+    rest = max(0, moment - sum(bins))
+    return (bins[0] + rest, *bins[1:])
 
 
 class Counts:

@@ -149,9 +149,9 @@ class Plan:
         such a pipe after the way's own pipe, in a second pass. Wrong: another line uses such a number."""
         pipes = list(range(self.last_free - len(delays) + 1, self.last_free + 1))
         others = {target.number for target in self.current if target.kind == "pipe"}
-        taken = others.intersection(pipes)
-        if pipes and (pipes[0] <= self.ways or taken):
-            raise Wrong(f"pipe {max(taken, default=pipes[0])} is needed for jitter or late packets, and is another's")
+        conflicts = others.intersection(pipes)
+        if pipes and (pipes[0] <= self.ways or conflicts):
+            raise Wrong(f"pipe {max(conflicts, default=pipes[0])} is needed for jitter or late packets, and is another's")
         self.last_free -= len(pipes)
         for delay, pipe in zip(delays, pipes):
             delay_words = f" delay {delay}" if delay else ""
@@ -199,8 +199,8 @@ class Plan:
 
     def unruled(self) -> list[Target]:
         """Returns the queues to which no rule sends a packet."""
-        ruled = set[Target]().union(*self.targets.values())
-        return [target for target in self.current if target.kind == "queue" and target not in ruled]
+        rule_targets = set[Target]().union(*self.targets.values())
+        return [target for target in self.current if target.kind == "queue" and target not in rule_targets]
 
     def extra_lines(self, seed: int) -> list[str]:
         """Returns the plan's lines for jitter, duplicates and flipped bits."""

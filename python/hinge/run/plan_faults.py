@@ -53,7 +53,7 @@ def add_packet_faults(plan: Plan, way: int, faults: Sequence[Fault]) -> None:
             raise Wrong(f"'{faults[0]}': {model} decides about each packet of that way; leave one of them out")
         return
     plan.chosen += [(way, fault.packet) for fault in faults]
-    lost = [fault.packet for fault in faults if fault.kind == IS_LOST]
+    losses = [fault.packet for fault in faults if fault.kind == IS_LOST]
     twice = [fault.packet for fault in faults if fault.kind == IS_TWICE]
     late = {fault.packet: fault.ms for fault in faults if fault.kind == IS_LATE}
     extra, pipes = plan.extras.get(way, (Extra(), []))
@@ -65,6 +65,6 @@ def add_packet_faults(plan: Plan, way: int, faults: Sequence[Fault]) -> None:
     plan.decided[way] = "faults"
     if twice:
         plan.copied.add(way)
-    plan.rest.append(f"list {way} {' '.join(map(str, lost))}")
+    plan.rest.append(f"list {way} {' '.join(map(str, losses))}")
     plan.rest += [f"fault {way} 1 {packet} 1" for packet in twice]
     plan.rest += [f"fault {way} 2 {packet} {pipe_of_delay[delay]}" for packet, delay in late.items()]

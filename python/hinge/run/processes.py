@@ -145,12 +145,12 @@ class Processes:
         self.reap()
         themselves = {name for name, process in processes.items() if process in self.ended}
         others = [process for name, process in processes.items() if name not in themselves]
-        killed = self.end_all(others, patience)
+        victims = self.end_all(others, patience)
         endings = dict[str, Ended]()
         for name, process in processes.items():
             status = self.ended.get(process, SIGNALLED + signal.SIGKILL)
             after = round(self.ended_at.get(process, time.monotonic()) - start, 3)
-            by = "SIGKILL" if process in killed else "SIGTERM"
+            by = "SIGKILL" if process in victims else "SIGTERM"
             endings[name] = Ended(status, after, "itself" if name in themselves else by)
         return endings
 

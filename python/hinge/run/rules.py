@@ -53,9 +53,9 @@ class Rule:
             yield nets.get("src"), nets.get("dst")
             return
         for end in ENDS[0]:
-            shared = narrower(nets.get(end), host)
-            if shared is not None:
-                pair = {**nets, end: shared}
+            overlap = narrower(nets.get(end), host)
+            if overlap is not None:
+                pair = {**nets, end: overlap}
                 yield pair.get("src"), pair.get("dst")
 
     def spans(self) -> Iterator[tuple[PortSpan, PortSpan]]:
@@ -67,9 +67,9 @@ class Rule:
             yield spans["sport"], spans["dport"]
             return
         for end in ENDS[1]:
-            shared = spans[end].both(port)
-            if shared is not None:
-                pair = {**spans, end: shared}
+            overlap = spans[end].both(port)
+            if overlap is not None:
+                pair = {**spans, end: overlap}
                 yield pair["sport"], pair["dport"]
 
     def lines(self, way: int) -> list[str]:

@@ -91,14 +91,14 @@ class Awaited(NamedTuple):
         """Yields lines about events and hosts' faults without effect: those that a seed drew, or the others."""
         pairs = (pair for pair in self.idle if pair[0].is_drawn == is_drawn)
         yield from some("changed nothing", (f"`{event}`, beside `{cause}`" for event, cause in pairs))
-        yield from some(NOTHING_RAN, (words for words, was_drawn in self.faults if was_drawn == is_drawn))
+        yield from some(NOTHING_RAN, (words for words, by_seed in self.faults if by_seed == is_drawn))
 
     def remarks(self, counts: Counts) -> Iterator[str]:
         """Yields remarks on what isn't a mistake: events without effect that a seed drew, rules that no packet matched, and queues
         that no rule names."""
         yield from self.without_effect(is_drawn=True)
-        matched = {text for place, text in enumerate(self.rules) if counts.has_met(place)}
-        yield from some("met no packet", (f"`{text}`" for text in dict.fromkeys(self.rules) if text not in matched))
+        with_packets = {text for place, text in enumerate(self.rules) if counts.has_met(place)}
+        yield from some("met no packet", (f"`{text}`" for text in dict.fromkeys(self.rules) if text not in with_packets))
         yield from some("no rule names", self.queues)
 
 
