@@ -148,7 +148,7 @@ def main() -> None:
     lines = [*arguments.pop("line"), *lines_of_links(links)]
     files = [word for word in links if " " not in word]
     order = order_of(LiveOptions(**arguments, line=lines, more_files=files), LONGEST, mask)
-    if any(extra.corrupt for extra, _ in order.made.extras.values()):
+    if any(extra.corrupt for extra, _ in order.link_plan.extras.values()):
         raise Wrong("corrupt: each datagram is sent with a checksum of its own, which no flipped bit breaks; write loss 1%")
     signal.pthread_sigmask(signal.SIG_BLOCK, SIGNALS)  # only now, since reading a file may wait for a FIFO's writer
     with bound_socket(listen) as front:

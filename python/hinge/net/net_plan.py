@@ -180,7 +180,7 @@ class NetPlan:
     def happenings(self, event: Event, ns: int, changes: Changes) -> list[Happening]:
         """Returns the links' actions for an event; `changes` numbers its cuts. Wrong: the links can't carry it out."""
         if isinstance(event, NewLine):
-            self.plan.take(line := self.own(event.ways[0] // 2, event.ways[0] > event.ways[1], event.line))
+            self.plan.note_line(line := self.own(event.ways[0] // 2, event.ways[0] > event.ways[1], event.line))
             return [Change(ns, line)]
         return self.plan.happenings(event, ns, changes)
 

@@ -11,7 +11,7 @@ from hinge.net.acts import Done
 from hinge.net.description import Description, Wait
 from hinge.net.order import NetOrder
 from hinge.run.hints import lacking
-from hinge.run.order import told_status
+from hinge.run.order import finish_report
 from hinge.run.page import Counts
 from hinge.run.processes import Ended, name_of
 from hinge.run.summary import FORMAT, SELDOM, VOID, host_record, way_record
@@ -164,5 +164,5 @@ def report_net(order: NetOrder, ran: NetRan, waits: Optional[Waits], tell: Calla
         "acts": act_records(order.made.events, ran.acts, ran.main, counts["moment"]),
     }
     lines = [*([] if order.options.quiet else lines), *of_hosts(others)]
-    status = told_status(order.options, lines, counts["parts"], told_all, ran.status, tell)
+    status = finish_report(order.options, lines, counts["parts"], told_all, ran.status, tell)
     return ran.status if ran.missing else status

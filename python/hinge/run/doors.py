@@ -1,6 +1,6 @@
-"""The doors to a run's rooms: descriptors for the first process's namespaces and a room's network.
+"""The doors to a run's rooms: descriptors of the first process's root and namespaces, and of a room's network.
 
-A process uses them to enter the room and run a command there, like the run's commands."""
+Through these descriptors another process enters the room, and runs a command there like the run's commands."""
 
 from __future__ import annotations
 
@@ -13,21 +13,22 @@ from hinge.run.processes import Mask
 from hinge.run.rooms import start
 from hinge.run.system import NEWNET, NEWNS, NEWPID, NEWUSER, NEWUTS, die_with_parent, join, unshare
 
-KINDS = (("user", NEWUSER), ("mnt", NEWNS), ("pid", NEWPID))  # in the order in which they are entered
-DOORS = len(KINDS) + 2  # with the root and a room's network; and cgroup.procs of its cgroup, where it has one
+KINDS = (("user", NEWUSER), ("mnt", NEWNS), ("pid", NEWPID))  # the namespaces, in the order of entering
+DOORS = len(KINDS) + 2  # with the root and a room's network; a last door may be cgroup.procs in a cgroup's folder
 
 
 class Doors:
-    """Create the doors in the first process."""
+    """Holds the doors that all rooms share. Create this object in the first process."""
 
     def __init__(self) -> None:
         self.shared = [held("/"), *(held(f"/proc/thread-self/ns/{kind}") for kind, _ in KINDS)]
 
     def to(self, network: int, mounts: Optional[list[int]] = None) -> list[int]:
-        """Returns the doors of the room with this network, and with the root and mount namespace in `mounts`, if any."""
-        root, users, namespace, processes = self.shared
-        root, namespace = mounts or (root, namespace)
-        return [root, users, namespace, processes, network]
+        """Returns the doors to the room with this network. `mounts` are the room's own root and mount namespace, if any."""
+        root, users, mount_namespace, processes = self.shared
+        if mounts:
+            root, mount_namespace = mounts
+        return [root, users, mount_namespace, processes, network]
 
 
 def is_here(namespace: int, kind: str) -> bool:
@@ -36,11 +37,12 @@ def is_here(namespace: int, kind: str) -> bool:
 
 
 def started_behind(doors: Sequence[int], host: str, words: Sequence[str], mask: Mask) -> int:
-    """Starts a command in a run's room; returns its process. This process's later children also run there, and end with the run."""
+    """Moves this process into a run's namespaces, and starts a command in the room behind `doors`, with the host's name; returns
+    the command's process. This process's later children also run there, and end with the run."""
     folder = os.getcwd()
     root, *namespaces, network = doors[:DOORS]
-    strange = [(namespace, flag) for (kind, flag), namespace in zip(KINDS, namespaces) if not is_here(namespace, kind)]
-    for namespace, flag in strange:
+    others = [(namespace, flag) for (kind, flag), namespace in zip(KINDS, namespaces) if not is_here(namespace, kind)]
+    for namespace, flag in others:
         join(namespace, flag)
     os.fchdir(root)
     os.chroot(".")
@@ -54,4 +56,5 @@ def started_behind(doors: Sequence[int], host: str, words: Sequence[str], mask: 
         socket.sethostname(host)
         os.chdir(folder)
 
-    return start(words, mask, enter_room, any(flag == NEWUSER for _, flag in strange))
+    has_new_users = any(flag == NEWUSER for _, flag in others)
+    return start(words, mask, enter_room, has_new_users)

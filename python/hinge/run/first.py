@@ -1,4 +1,5 @@
-"""The rooms' first process, on which all other processes depend, and the process that waits for it."""
+"""The first process in a run's rooms, on which all other processes there depend, and the process that waits for the first
+process."""
 
 from __future__ import annotations
 
@@ -18,8 +19,8 @@ BLOCKED = {signal.SIGCHLD, signal.SIGTERM, signal.SIGHUP, signal.SIGINT, signal.
 
 
 def first_process(run: Callable[[], int]) -> int:
-    """Forks this process; returns the child, which ends with this process, or with the status that `run` returns. Beforehand it
-    removes what killed runs left, but not in a machine, whose course may not depend on that."""
+    """Forks this process; returns the child, which calls `run` and exits with its status, or ends when this process ends. Before
+    the fork, removes the remains of killed runs, except in a simulated machine, whose course must not depend on them."""
     if not is_simulated():
         remove_all_left()
     parent = os.pidfd_open(os.getpid())  # since the child sees no number of a process outside its namespace
@@ -34,29 +35,32 @@ def first_process(run: Callable[[], int]) -> int:
 
 
 def status_of(first: int, leash: Optional[int] = None) -> int:
-    """Returns the first process's status, or the negative number of the signal that ended it. Signals are passed on to it, except ^C
-    from a terminal, which the command receives too. SIGIO reports that the leash, a pipe, was closed at the other end, which means SIGTERM, or that a byte arrived, after which a
-    close means nothing."""
+    """Waits for the end of the first process; returns its status, or the negative number of the signal that ended it. Passes
+    signals on as SIGTERM, except a ^C from a terminal, which the command receives too. The leash is a pipe, about which SIGIO
+    reports: if the other end is closed, the first process gets SIGTERM; if a byte arrives, a later close means nothing."""
     is_interrupted = False
     while True:
-        came = signal.sigwaitinfo(BLOCKED)
-        if came.si_signo == signal.SIGCHLD:
-            process, status = os.waitpid(first, os.WNOHANG)
+        information = signal.sigwaitinfo(BLOCKED)
+        number = information.si_signo
+        if number == signal.SIGCHLD:
+            process, wait_status = os.waitpid(first, os.WNOHANG)
             if process:
-                code = os.waitstatus_to_exitcode(status)
-                return INTERRUPTED if is_interrupted and code in (SIGNALLED + signal.SIGTERM, -signal.SIGTERM) else code
-        elif came.si_signo == signal.SIGIO:
+                code = os.waitstatus_to_exitcode(wait_status)
+                is_terminated = code in (SIGNALLED + signal.SIGTERM, -signal.SIGTERM)
+                return INTERRUPTED if is_interrupted and is_terminated else code
+        elif number == signal.SIGIO:
             if leash is not None and can_be_read(leash, 0):
                 if not os.read(leash, 1):
                     os.kill(first, signal.SIGTERM)
                 leash = None
-        elif came.si_signo != signal.SIGINT or came.si_code == 0:
-            is_interrupted = came.si_signo == signal.SIGINT
+        elif number != signal.SIGINT or information.si_code == 0:  # a terminal's ^C has another code
+            is_interrupted = number == signal.SIGINT
             os.kill(first, signal.SIGTERM)
 
 
 def exit_as(first: int, leash: Optional[int] = None) -> NoReturn:
-    """Exits with the first process's status. This process names a signal that ended the first one, which could say nothing then."""
+    """Waits for the end of the first process, and exits with its status. Prints the name of a signal that ended the first process,
+    which couldn't report its own end."""
     status = status_of(first, leash)
     if status < 0:
         say(f"{signal.Signals(-status).name} ended the run's first process, and with it all programs, before a summary")

@@ -1,4 +1,4 @@
-"""The host hinge-link: finding and starting it."""
+"""The host program hinge-link, which emulates the links: its path and its start."""
 
 from __future__ import annotations
 
@@ -21,13 +21,15 @@ if TYPE_CHECKING:
 NAME = "hinge-link"
 HERE = Path(__file__).resolve().parent
 POLL = 0.0005  # s between looks at the page
-PIECE = 1 << 16  # letters of a plan
+PIECE = 1 << 16  # letters of a plan that are written at once
 
 
 def program() -> str:
-    """Returns the path to hinge-link: the variable HINGE_LINK, the installed host beside this module, or the repository's host.
+    """Returns the path to hinge-link: the path in the variable HINGE_LINK, the program beside this module in an installation, or
+    the program in the repository.
 
-    In a repository, the host from tools/release/hosts precedes the released host. Missing: there is no hinge-link."""
+    In a repository, the program that tools/release/hosts built precedes the released program. Missing: there is no hinge-link, or
+    this isn't Linux."""
     if sys.platform != "linux":
         raise Missing("the host is a program of Linux")
     repository = HERE.parents[2]
@@ -40,19 +42,18 @@ def program() -> str:
 
 
 def plan_file(text: str) -> int:
-    """Returns a descriptor for reading the plan."""
+    """Returns a descriptor from which hinge-link can read the plan."""
     descriptor = os.memfd_create("plan")
-    with os.fdopen(
-        os.dup(descriptor), "w", encoding="utf-8", errors="surrogateescape"
-    ) as file:  # which may name files of any bytes
-        for at in range(0, len(text), PIECE):  # since as much of a text as is written at once is copied
-            file.write(text[at : at + PIECE])
+    # Names of files in a plan may contain any bytes. Each call of `write` copies its text, so a long text is written in pieces.
+    with os.fdopen(os.dup(descriptor), "w", encoding="utf-8", errors="surrogateescape") as file:
+        for start in range(0, len(text), PIECE):
+            file.write(text[start : start + PIECE])
     os.lseek(descriptor, 0, os.SEEK_SET)
     return descriptor
 
 
 class Link:
-    """A running hinge-link and its page of counts. The constructor starts the process."""
+    """Holds a running hinge-link, its page of counts and the control socket. The constructor starts the process."""
 
     def __init__(
         self,
@@ -65,36 +66,41 @@ class Link:
         control: Optional[Control] = None,
         lines: Optional[HostLines] = None,
     ) -> None:
-        """`lines` sends lines to the host during the run; a control socket comes with its lines."""
-        self.processes, self.page, self.control = processes, page, control
-        lines = control.lines if control else lines
-        plan_read = plan_file(plan + lines.line() if lines else plan)
-        total = [*descriptors, page.descriptor, *([lines.descriptor()] if lines else [])]
-        words = [program(), *words, str(page.descriptor)]
+        """Starts hinge-link with the arguments `words`; the program inherits `descriptors`. `lines` sends lines to the program
+        during the run; a control socket has its own object for this."""
+        self.processes = processes
+        self.page = page
+        self.control = control
+        descriptors_to_keep = [*descriptors, page.descriptor]
+        if control:
+            lines = control.lines
+        if lines:
+            plan += lines.line()
+            descriptors_to_keep.append(lines.descriptor())
+        plan_descriptor = plan_file(plan)
+        command = [program(), *words, str(page.descriptor)]
 
         def begin() -> int:
-            os.dup2(plan_read, 0)
-            for descriptor in total:
+            os.dup2(plan_descriptor, 0)
+            for descriptor in descriptors_to_keep:
                 os.set_inheritable(descriptor, True)
             signal.pthread_sigmask(signal.SIG_SETMASK, mask)
-            return become(words)
+            return become(command)
 
         self.process = forked(begin)
 
     def failed(self) -> Optional[int]:
-        """Waits until the link is ready. Otherwise returns the status of a host that ended early and printed the reason, or of a
-        signal.
-
-        After a signal, the link is gone."""
-        came = self.processes.poll(
-            lambda: self.page.head("state") != STARTING or self.process in self.processes.ended, math.inf, POLL
-        )
-        fault = SIGNALLED + came if came else self.processes.ended.get(self.process)
-        if fault is not None:
+        """Waits until the link is ready, and returns None. If hinge-link ends early, after it printed the reason, returns its
+        status. If a signal arrives, ends hinge-link and returns the signal's status."""
+        statuses = self.processes.ended
+        number = self.processes.poll(lambda: self.page.head("state") != STARTING or self.process in statuses, math.inf, POLL)
+        status = SIGNALLED + number if number else statuses.get(self.process)
+        if status is not None:
             self.end()
-        return fault
+        return status
 
     def end(self) -> None:
+        """Ends hinge-link and closes the control socket."""
         self.processes.end(self.process, 5)
         if self.control:
             self.control.end()

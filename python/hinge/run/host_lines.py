@@ -1,4 +1,4 @@
-"""Lines to the host hinge-link during a run, and the host's replies (control.h)."""
+"""Lines to the host program hinge-link during a run, and the program's replies (control.h)."""
 
 from __future__ import annotations
 
@@ -11,19 +11,21 @@ from typing import Callable, NamedTuple, Optional
 from hinge.border.programs import can_be_read
 from hinge.run.words import Wrong
 
-PATIENCE = 10.0  # s within which the host takes a line
+PATIENCE = 10.0  # s within which the host reads a line
 LOOK = 0.05  # s between looks whether a client is still there
-MOMENT = 1.0  # s for the answer to a line that the host has taken as its time ended
+MOMENT = 1.0  # s for the reply to a line that the host read just before the end of its patience
 LONGEST_LINE = 4000  # bytes
-LONGEST_ANSWER = 8500
+LONGEST_ANSWER = 8500  # bytes
 UNTAKEN = f"not obeyed: the links took no line within {PATIENCE:g} s"
 UNANSWERED = "the links took the line, and have not answered: it may be obeyed"
 
 
 class Answer(NamedTuple):
-    moment: int  # ns, of the links
-    wrong: str  # why the line is refused, or nothing
-    line: str  # the configuration line that a pipe has now, or nothing
+    """Describes the host's reply to a line."""
+
+    moment: int  # ns, on the links' clock
+    wrong: str  # the reason for a refusal, or an empty text
+    line: str  # the configuration line that a pipe has now, or an empty text
 
 
 class HostLines:
@@ -33,9 +35,9 @@ class HostLines:
 
     def __init__(self) -> None:
         self.own, self.hosts = socket.socketpair(socket.AF_UNIX, socket.SOCK_SEQPACKET)
-        self.lock = threading.Lock()  # a line and its answer go together
-        self.owed = 0  # answers to lines for which nobody waits any more
-        self.latest = 0  # the last moment that was answered
+        self.lock = threading.Lock()  # so that a line's reply comes before the next line
+        self.owed = 0  # how many replies are due for which nobody waits any more
+        self.latest = 0  # the moment in the last reply
 
     def descriptor(self) -> int:
         """Returns the host's end of the socket."""
@@ -46,21 +48,23 @@ class HostLines:
         return f"control {self.descriptor()}\n"
 
     def ask(self, text: str, until: Optional[float] = None, is_wanted: Callable[[], bool] = lambda: True) -> Answer:
-        """Sends a line and returns the host's reply. The host must read it before `until`, while the client stays. Wrong: the
-        line is too long."""
+        """Sends a line and returns the host's reply. If the host hasn't read the line at the moment `until` of the monotonic clock,
+        or before `is_wanted` returns false, the reply says so. Wrong: the line is too long."""
         if len(os.fsencode(text)) > LONGEST_LINE:
             raise Wrong("a line of more than 4,000 bytes")
         with self.lock:
-            head, _, line = self.answer(text, until or time.monotonic() + PATIENCE, is_wanted).partition("\n")
+            reply = self.answer(text, until or time.monotonic() + PATIENCE, is_wanted)
+            head, _, line = reply.partition("\n")
             moment, _, wrong = head.partition(" ")
             self.latest = int(moment)
             return Answer(self.latest, wrong, line)
 
     def answer(self, text: str, until: float, is_wanted: Callable[[], bool]) -> str:
+        """Sends a line and returns the text of the host's reply, or a text of the same form if there is no reply."""
         try:
             self.own.send(os.fsencode(text))
-            while not self.has_answered(LOOK):
-                if (time.monotonic() > until or not is_wanted()) and self.is_taken_back():
+            while not self.wait_for_reply(LOOK):
+                if (time.monotonic() > until or not is_wanted()) and self.withdraw():
                     return f"{self.latest} {UNTAKEN}"
                 if time.monotonic() > until + MOMENT:
                     self.owed += 1
@@ -69,8 +73,9 @@ class HostLines:
         except OSError:
             return f"{self.latest} the links don't answer"
 
-    def has_answered(self, patience: float) -> bool:
-        """Returns whether the latest reply has arrived; earlier replies are dropped."""
+    def wait_for_reply(self, patience: float) -> bool:
+        """Waits up to `patience` seconds; returns whether the reply to the latest line has arrived. Drops replies to earlier
+        lines."""
         while can_be_read(self.own, patience):
             if not self.owed:
                 return True
@@ -78,8 +83,8 @@ class HostLines:
             self.owed -= 1
         return False
 
-    def is_taken_back(self) -> bool:
-        """Withdraws a line that the host hasn't read yet; returns whether that worked."""
+    def withdraw(self) -> bool:
+        """Withdraws the latest line, if the host hasn't read the line yet; returns whether that was so."""
         try:
             return bool(self.hosts.recv(2 * LONGEST_LINE, socket.MSG_DONTWAIT))
         except BlockingIOError:

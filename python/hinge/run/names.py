@@ -1,4 +1,4 @@
-"""The sockets of runs with names: their folder, and the difference between a name and a path."""
+"""The control sockets of runs with names: the folder with the sockets, and the distinction between a name and a path."""
 
 from __future__ import annotations
 
@@ -20,7 +20,8 @@ def folder_of_names() -> str:
 
 
 def socket_of(text: str) -> str:
-    """Returns the path itself, or the socket of a name."""
+    """Returns the path of the socket with a name. If the text isn't the name of a socket, or a file has this path, returns the
+    text."""
     if not NAME.fullmatch(text) or os.path.exists(text) or not os.path.lexists(folder_of_names()):
         return text
     path = os.path.join(own_folder(), text)
@@ -28,8 +29,8 @@ def socket_of(text: str) -> str:
 
 
 def running() -> str:
-    """Returns the names of this user's runs, for a refusal."""
-    from hinge.border.asking import is_answered  # which a wrong name alone needs
+    """Returns words with the names of this user's runs, for the end of an error's message."""
+    from hinge.border.asking import is_answered  # imported here, since only a wrong name needs the module
 
     names = sorted(os.listdir(own_folder())) if os.path.isdir(folder_of_names()) else []
     names = [name for name in names if is_answered(os.path.join(own_folder(), name))]
@@ -37,16 +38,17 @@ def running() -> str:
 
 
 def own_folder() -> str:
-    """Creates the folder for names, and returns it. Wrong: other users may write there, and could answer in the run's place."""
-    place = folder_of_names()
-    result = os.lstat(place)
-    if not stat.S_ISDIR(result.st_mode) or result.st_uid != os.geteuid():
-        raise Wrong(f"{place}: it is another user's")
-    return place
+    """Returns the existing folder for names. Wrong: the folder belongs to another user, who could answer in the run's place."""
+    folder = folder_of_names()
+    status = os.lstat(folder)
+    if not stat.S_ISDIR(status.st_mode) or status.st_uid != os.geteuid():
+        raise Wrong(f"{folder}: it is another user's")
+    return folder
 
 
 def new_socket(name: str) -> str:
-    """Returns the path for a new socket, in a folder that only this user can use. Wrong: the name contains other characters."""
+    """Returns the path for a new socket with a name, in a folder that only this user can use; creates the folder. Wrong: the name
+    contains other characters, or the folder belongs to another user."""
     if not NAME.fullmatch(name):
         raise Wrong(f"--name {name}: a name has letters, digits, dots and hyphens")
     os.makedirs(folder_of_names(), 0o700, exist_ok=True)

@@ -1,22 +1,23 @@
-"""The counts of running links in OpenMetrics text format, for a monitor."""
+"""The counts of running links in the text format OpenMetrics, for a monitor such as Prometheus."""
 
 from __future__ import annotations
 
+from itertools import chain
 from typing import Any, Iterator, NamedTuple, Optional
 
 from hinge.run.summary import NAMES
 
-MS, NS = 1e3, 1e9  # of a second
+MS, NS = 1e3, 1e9  # how many make a second
 QUANTILES = {"p50": "0.5", "p99": "0.99", "p99.9": "0.999", "max": "1"}
 
 
 class Family(NamedTuple):
-    """A metric, and its key in a way's record."""
+    """Describes a metric, and the key of its value in the record of a way (one direction of a link)."""
 
     name: str
-    kind: str
+    kind: str  # counter, gauge or summary
     unit: str
-    key: str
+    key: str  # in the record
     help: str
 
 
@@ -44,14 +45,18 @@ SUMMARIES = (
     ("unread_seconds", "seconds", "unread", "How long packets can have waited to be read, since the start."),
 )
 FAMILIES = [
-    Family(*family[:1], kind, *family[1:])
+    Family(name, kind, unit, key, help)
     for kind, families in (("counter", COUNTERS), ("gauge", GAUGES), ("summary", SUMMARIES))
-    for family in families
+    for name, unit, key, help in families
 ]
+OF_HOST = (
+    ("wakeups", "How often the process of the links slept and woke."),
+    ("turns", "How often it looked after its links."),
+)
 
 
 def labels(**values: object) -> str:
-    """Formats labels. Returns them unquoted, since hosts, numbers and quantiles contain no special characters."""
+    """Returns the text of labels. The values need no escapes, since hosts, numbers and quantiles contain no special characters."""
     return ",".join(f'{name.rstrip("_")}="{value}"' for name, value in values.items())
 
 
@@ -63,15 +68,19 @@ def ways_of(status: dict[str, Any]) -> list[tuple[str, dict[str, Any]]]:
 
 
 def samples(family: Family, label: str, way: dict[str, Any]) -> Iterator[str]:
+    """Yields the lines with a metric's values for a way."""
     if family.kind == "summary":
         for part, quantile in QUANTILES.items():
-            yield f'hinge_{family.name}{{{label},quantile="{quantile}"}} {way[f"{family.key}_{part}_ms"] / MS:.9g}'
+            seconds = way[f"{family.key}_{part}_ms"] / MS
+            yield f'hinge_{family.name}{{{label},quantile="{quantile}"}} {seconds:.9g}'
         return
     value = way[family.key] / NS if family.unit == "seconds" else way[family.key]
-    yield f"hinge_{family.name}{'_total' if family.kind == 'counter' else ''}{{{label}}} {value!r}"
+    ending = "_total" if family.kind == "counter" else ""
+    yield f"hinge_{family.name}{ending}{{{label}}} {value!r}"
 
 
 def head(name: str, kind: str, unit: str, text: str) -> Iterator[str]:
+    """Yields the lines that describe a metric."""
     yield f"# TYPE hinge_{name} {kind}"
     if unit:
         yield f"# UNIT hinge_{name} {unit}"
@@ -79,22 +88,19 @@ def head(name: str, kind: str, unit: str, text: str) -> Iterator[str]:
 
 
 def openmetrics(status: dict[str, Any]) -> str:
-    """Returns a `hinge status` record in OpenMetrics format."""
-    lines, ways = list[str](), ways_of(status)
+    """Returns the record of `hinge status` in OpenMetrics format."""
+    lines = list[str]()
+    ways = ways_of(status)
     for family in FAMILIES:
         lines += head(family.name, family.kind, family.unit, family.help)
-        lines += [line for label, way in ways for line in samples(family, label, way)]
-    for name, key, text in (
-        ("wakeups", "wakeups", "How often the process of the links slept and woke."),
-        ("turns", "turns", "How often it looked after its links."),
-    ):
-        lines += [*head(name, "counter", "", text), f"hinge_{name}_total {status[key]}"]
-    lines += [
-        *head("moment_seconds", "gauge", "seconds", "The clock of the links."),
-        f"hinge_moment_seconds {status['moment'] / NS!r}",
-    ]
+        lines += chain.from_iterable(samples(family, label, way) for label, way in ways)
+    for name, text in OF_HOST:
+        lines += head(name, "counter", "", text)
+        lines.append(f"hinge_{name}_total {status[name]}")
+    lines += head("moment_seconds", "gauge", "seconds", "The clock of the links.")
+    lines.append(f"hinge_moment_seconds {status['moment'] / NS!r}")
     endings: Optional[dict[str, int]] = status.get("ended")
     if endings is not None:
         lines += head("ended_status", "gauge", "", "The statuses of the hosts' commands that have ended.")
-        lines += [f"hinge_ended_status{{{labels(host=host)}}} {status}" for host, status in endings.items()]
+        lines += [f"hinge_ended_status{{{labels(host=host)}}} {code}" for host, code in endings.items()]
     return "\n".join([*lines, "# EOF"])

@@ -1,4 +1,5 @@
-"""The options that `hinge run` and `hinge udp` share. Modules that a help doesn't need explain their meaning."""
+"""The options that `hinge run` and `hinge udp` share. The modules that a help doesn't need are imported only when an option is
+used."""
 
 from __future__ import annotations
 
@@ -11,10 +12,11 @@ from hinge.command_line import add, Joined, Parser
 from hinge.foreign_options import OF_LINK, OPTIONS
 from hingetulip_words.values import EXAMPLES
 
-MOST = 250_000_000  # bytes of a part of a transcript: an audit reads at most 268,435,456
+MOST = 250_000_000  # bytes of a part of a transcript, since an audit reads at most 268,435,456
 
 
 def mtu(text: str) -> int:
+    """Returns the bytes of an MTU. ArgumentTypeError: the text isn't a number in the range."""
     from hinge.run.words import Wrong, bytes_of_mtu
 
     try:
@@ -24,12 +26,15 @@ def mtu(text: str) -> int:
 
 
 def seed(text: str) -> int:
+    """Returns a seed. ArgumentTypeError: the text isn't a number below 2^62."""
     if not (is_number(text) and int(text) < 2**62):
         raise argparse.ArgumentTypeError(f"{text!r} isn't a number below 2^62")
     return int(text)
 
 
 def preset_name(text: str) -> str:
+    """Returns a preset's name unchanged. ArgumentTypeError: there is no such preset; if the text is a link, the message advises
+    --link."""
     from hingetulip_words.link import corrected
     from hingetulip_words.presets import preset
 
@@ -38,11 +43,12 @@ def preset_name(text: str) -> str:
         return text
     except ValueError as wrong:
         link = corrected(text)
-        raise argparse.ArgumentTypeError(f"{text!r}: not a preset; write --link {link!r}" if link else str(wrong)) from None
+        message = f"{text!r}: not a preset; write --link {link!r}" if link else str(wrong)
+        raise argparse.ArgumentTypeError(message) from None
 
 
 class ListPresets(argparse.Action):
-    """Prints the presets and exits."""
+    """Prints the presets and exits, for --list-presets."""
 
     def __call__(
         self, parser: argparse.ArgumentParser, namespace: argparse.Namespace, values: object, option: Optional[str] = None
@@ -54,53 +60,61 @@ class ListPresets(argparse.Action):
 
 
 class BothWays(Joined):
-    """Sets the link for each way without --up or --down."""
+    """Sets the link for each way (one direction of the link) that has no --up or --down of its own, for --link."""
 
     def __call__(self, parser: argparse.ArgumentParser, namespace: argparse.Namespace, values: object, option: Any = None) -> None:
         from hinge.run.plan_of_options import own_link
 
-        own_link(str(values), "--link")  # a wrong word is of this option, and not of --up
+        own_link(str(values), "--link")  # so that the message about a wrong word names --link, not --up
         for way in ("up", "down"):
             if not (isinstance(parser, Parser) and f"--{way}" in parser.given):
                 setattr(namespace, way, values)
 
 
 class Foreign(argparse.Action):
-    """An option of another tool, refused together with all others and with advice."""
+    """Refuses an option of another tool. With the command's own advice, the refusal is immediate; otherwise the parser collects
+    such options and refuses them together."""
 
     def __call__(self, parser: argparse.ArgumentParser, namespace: argparse.Namespace, values: Any, option: Any = None) -> None:
         if self.const:
             from hingetulip_words.link import corrected
 
-            parser.error(f"{option}: write {self.const.format(values and (corrected(values) or values))}")
+            value = (corrected(values) or values) if values else values
+            parser.error(f"{option}: write {self.const.format(value)}")
         elif isinstance(parser, Parser):
             parser.foreign.append((option, values or ""))
 
 
 class Model(argparse._AppendAction):
-    """A loss model, or a rate, which the link takes."""
+    """Adds a loss model to the models from --loss. A loss rate belongs to a link's words, and is refused like another tool's
+    option."""
 
     def __call__(self, parser: argparse.ArgumentParser, namespace: argparse.Namespace, values: Any, option: Any = None) -> None:
         from hinge.loss import rate_of
 
-        if isinstance(parser, Parser) and rate_of(values):
-            parser.foreign.append(("--loss", rate_of(values)))
+        rate = rate_of(values)
+        if isinstance(parser, Parser) and rate:
+            parser.foreign.append(("--loss", rate))
         else:
             super().__call__(parser, namespace, values, option)
 
 
 def add_foreign(parser: Parser, table: Mapping[str, str]) -> None:
-    """Adds other tools' options, and those of `hinge run` in the table that another command refuses with advice of its own."""
+    """Adds hidden options that the command refuses: other tools' options, and the options in `table`, each with the command's own
+    advice."""
     for option in dict.fromkeys((*table, *OF_LINK, *OPTIONS)):
-        unseen = argparse.SUPPRESS
-        action = parser.add_argument(option, action=Foreign, const=table.get(option), default=unseen, help=unseen)
-        action.nargs = None if OPTIONS.get(option, ("", True))[1] else 0
+        hidden = argparse.SUPPRESS
+        action = parser.add_argument(option, action=Foreign, const=table.get(option), default=hidden, help=hidden)
+        _, has_value = OPTIONS.get(option, ("", True))
+        action.nargs = None if has_value else 0
 
 
 def add_link(parser: Parser, table: Optional[Mapping[str, str]] = None) -> None:
+    """Adds the options for the link and its changes, and the hidden options that the command refuses."""
     add_foreign(parser, table or {})
     link = parser.add_argument_group("the link")
-    add(link, "--up LINK", f"towards the server, as '{' '.join(EXAMPLES)}': pipe 1".replace("%", "%%"), action=Joined)
+    example = " ".join(EXAMPLES).replace("%", "%%")
+    add(link, "--up LINK", f"towards the server, as '{example}': pipe 1", action=Joined)
     link.add_argument("--down", metavar="LINK", action=Joined, help="from the server: pipe 2")
     link.add_argument("--link", metavar="LINK", action=BothWays, default=argparse.SUPPRESS, help="both ways")
     add(link, "--preset NAME", "the link of a name, as lte, in each direction of which nothing else is said", type=preset_name)
@@ -131,6 +145,7 @@ def add_changes(changes: argparse._ArgumentGroup) -> None:
 
 
 def add_run(group: argparse._ArgumentGroup) -> None:
+    """Adds the options for a run's outputs, limit and control socket."""
     add(group, "--transcript FILE", "the link's history, for `dummynet audit`; FILE.1 and so on where it is long")
     group.add_argument("--most", metavar="BYTES", type=seed, default=MOST, help=argparse.SUPPRESS)
     add(group, "--late TIME", "status 75 where more than 1 of 100 packets was late or unread by more, or the system dropped any")

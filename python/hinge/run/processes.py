@@ -1,4 +1,4 @@
-"""The processes that this one starts, and waiting for them and for signals."""
+"""The child processes of this process, and waits for their ends and for signals."""
 
 from __future__ import annotations
 
@@ -10,23 +10,23 @@ from typing import Callable, NamedTuple, Optional, Set, Union
 
 Mask = Set[Union[int, signal.Signals]]  # of signals that are blocked
 
-SIGNALLED = 128  # and the signal: the status of a command that one ended
+SIGNALLED = 128  # a command that a signal ended has this status plus the signal's number
 
 
 class Ended(NamedTuple):
-    """How a command ended."""
+    """Describes how a command ended."""
 
     status: int
-    after: float  # s
-    by: str  # itself, SIGTERM or SIGKILL; kill, where an act of a net did
+    after: float  # s since the command's start
+    by: str  # itself, SIGTERM, SIGKILL, or kill for a net's act
 
 
 def name_of(status: int) -> str:
-    """Returns words for a status, to end a sentence."""
-    try:
-        return signal.Signals(status - SIGNALLED).name if status > SIGNALLED else str(status)
-    except ValueError:
-        return str(status)
+    """Returns the name of the signal that a command's status stands for, or otherwise the status as text."""
+    if status > SIGNALLED:
+        with suppress(ValueError):  # there is no such signal
+            return signal.Signals(status - SIGNALLED).name
+    return str(status)
 
 
 class Ticker:
@@ -34,13 +34,16 @@ class Ticker:
 
     def __init__(self, do: Callable[[float], None]) -> None:
         """`do` receives the seconds since the start."""
-        self.do, self.begun = do, time.monotonic()
-        self.count = 0
+        self.do = do
+        self.begun = time.monotonic()
+        self.count = 0  # of calls
 
     def left(self) -> float:
+        """Returns the seconds until the next call."""
         return max(0.0, self.begun + self.count + 1 - time.monotonic())
 
     def tick(self) -> None:
+        """Calls the function if the next call is due."""
         if self.left() == 0:
             self.count += 1
             self.do(time.monotonic() - self.begun)
@@ -55,7 +58,7 @@ def signal_group(process: int, number: int) -> None:
 
 
 class Processes:
-    """Child processes. All of `signals` must be blocked."""
+    """Holds the child processes that have ended, and waits for others. The caller must have blocked all of `signals`."""
 
     def __init__(self, signals: set[signal.Signals]) -> None:
         self.signals = signals
@@ -63,79 +66,96 @@ class Processes:
         self.ended_at: dict[int, float] = {}  # and when their ends were seen, by the monotonic clock
 
     def reap(self) -> None:
+        """Notes the statuses of all child processes that have ended, without a wait."""
         with suppress(ChildProcessError):
             while True:
-                process, status = os.waitpid(-1, os.WNOHANG)
+                process, wait_status = os.waitpid(-1, os.WNOHANG)
                 if not process:
                     return
-                self.ended[process] = os.WEXITSTATUS(status) if os.WIFEXITED(status) else SIGNALLED + os.WTERMSIG(status)
+                code = os.waitstatus_to_exitcode(wait_status)  # a signal's number is negative
+                self.ended[process] = code if code >= 0 else SIGNALLED - code
                 self.ended_at[process] = time.monotonic()
 
     def wait(
         self, process: int, lasting: Optional[float] = None, ticker: Optional[Ticker] = None, needed: Optional[int] = None
     ) -> Optional[int]:
-        """Waits until a process ends, or `needed` ends, or `lasting` seconds pass; returns a signal that arrived first."""
+        """Waits until `process` ends, the process `needed` ends, or `lasting` seconds pass. Returns the number of a signal that
+        arrived first, if any."""
         until = None if lasting is None else time.monotonic() + lasting
         self.reap()
         while process not in self.ended and needed not in self.ended:
             now = time.monotonic()
             if until is not None and now >= until:
                 return None
-            remainder = [3600.0] if until is None else [until - now]
-            came = self.signal_within(min([*remainder, *([ticker.left()] if ticker else [])]))
-            if came:
-                return came
+            seconds = 3600.0 if until is None else until - now
+            if ticker:
+                seconds = min(seconds, ticker.left())
+            number = self.signal_within(seconds)
+            if number:
+                return number
             self.reap()
             if ticker:
                 ticker.tick()
         return None
 
     def poll(self, holds: Callable[[], bool], lasting: float, interval: float) -> Optional[int]:
-        """Waits until `holds` is true, checked at intervals, or `lasting` seconds pass; returns a signal that arrived first."""
+        """Waits until `holds` returns true, which is checked every `interval` seconds, or until `lasting` seconds pass. Returns the
+        number of a signal that arrived first, if any."""
         until = time.monotonic() + lasting
         self.reap()
         while not holds() and time.monotonic() < until:
-            came = self.signal_within(interval)
-            if came:
-                return came
+            number = self.signal_within(interval)
+            if number:
+                return number
             self.reap()
         return None
 
     def signal_within(self, seconds: float) -> Optional[int]:
-        """Waits up to some seconds for a signal; returns it, or None. The end of a process doesn't count. If this process was
-        stopped for longer, Python may return a random signal that never came."""
-        came = signal.sigtimedwait(self.signals, seconds)
-        return came.si_signo if came and came.si_signo in self.signals - {signal.SIGCHLD} else None
+        """Waits up to `seconds` for a signal, and returns its number. Returns None if no signal arrives or if a child process ends
+        first. After a longer stop of this process, Python may return a random signal, which is ignored."""
+        information = signal.sigtimedwait(self.signals, seconds)
+        if information and information.si_signo in self.signals - {signal.SIGCHLD}:
+            return information.si_signo
+        return None
 
     def end_all(self, processes: list[int], patience: float) -> set[int]:
-        """Ends processes and their groups, and kills those that remain after `patience` seconds; returns the killed processes."""
+        """Ends processes and their groups with SIGTERM, and kills processes and groups that remain after `patience` seconds.
+        Returns the killed processes."""
         self.reap()
-        rest = [process for process in processes if process not in self.ended]
-        for process in rest:
+        running = [process for process in processes if process not in self.ended]
+        for process in running:
             signal_group(process, signal.SIGTERM)
         until = time.monotonic() + patience
-        while (victims := {process for process in rest if self.is_there(process)}) and time.monotonic() < until:
+        remaining = self.remaining(running)
+        while remaining and time.monotonic() < until:
             signal.sigtimedwait({signal.SIGCHLD}, max(0.0, until - time.monotonic()))
-        for process in victims:
+            remaining = self.remaining(running)
+        for process in remaining:
             signal_group(process, signal.SIGKILL)
             self.wait_for_end(process, patience)
-        return victims
+        return remaining
+
+    def remaining(self, processes: list[int]) -> set[int]:
+        """Returns the processes that exist, or whose groups have other members."""
+        return {process for process in processes if self.is_there(process)}
 
     def endings(self, processes: dict[str, int], start: float, patience: float) -> dict[str, Ended]:
-        """Ends all commands, by name and process, and returns how each ended. `start` is their start on the monotonic clock."""
+        """Ends commands, each of which has a name and a process, and returns how each ended, by name. `start` is the commands'
+        start on the monotonic clock; after `patience` seconds, the remaining commands are killed."""
         self.reap()
         themselves = {name for name, process in processes.items() if process in self.ended}
         others = [process for name, process in processes.items() if name not in themselves]
         victims = self.end_all(others, patience)
         endings = dict[str, Ended]()
         for name, process in processes.items():
+            status = self.ended.get(process, SIGNALLED + signal.SIGKILL)
             after = round(self.ended_at.get(process, time.monotonic()) - start, 3)
-            by = "itself" if name in themselves else "SIGKILL" if process in victims else "SIGTERM"
-            endings[name] = Ended(self.ended.get(process, SIGNALLED + signal.SIGKILL), after, by)
+            by = "SIGKILL" if process in victims else "SIGTERM"
+            endings[name] = Ended(status, after, "itself" if name in themselves else by)
         return endings
 
     def is_there(self, process: int) -> bool:
-        """Returns whether the process, or a member of its group, exists."""
+        """Returns whether a process, or another member of its group, exists."""
         self.reap()
         try:
             os.killpg(process, 0)
@@ -144,7 +164,7 @@ class Processes:
             return process not in self.ended
 
     def end(self, process: int, patience: float) -> None:
-        """Ends a process, and waits up to `patience` seconds."""
+        """Ends a process with SIGTERM, and waits up to `patience` seconds for its end."""
         self.reap()
         if process not in self.ended:
             os.kill(process, signal.SIGTERM)
@@ -153,6 +173,6 @@ class Processes:
     def wait_for_end(self, process: int, patience: float) -> None:
         """Waits up to `patience` seconds for a process that was asked to end; ignores further signals."""
         until = time.monotonic() + patience
-        while process not in self.ended and (remainder := until - time.monotonic()) > 0:
-            signal.sigtimedwait({signal.SIGCHLD}, remainder)
+        while process not in self.ended and time.monotonic() < until:
+            signal.sigtimedwait({signal.SIGCHLD}, max(0.0, until - time.monotonic()))
             self.reap()

@@ -1,4 +1,4 @@
-"""`--map` rules as lines of a plan: they select a pipe or queue for the packets of a live link."""
+"""Rules from --map as lines of a plan. A rule selects a pipe or queue for the packets that match the rule."""
 
 from __future__ import annotations
 
@@ -8,13 +8,13 @@ from typing import Iterator, Optional
 from hinge.captures.rule_words import EVERY_PORT, BadRule, Net, PortSpan, parted, short_of
 from hinge.run.words import Target, Wrong
 
-MAPPED = 0xFFFF << 32  # where IPv4 lies in the addresses of IPv6
-EVERYWHERE = "0" * 32 + " " + "0" * 32
+MAPPED = 0xFFFF << 32  # the bits before an IPv4 address within an IPv6 address
+EVERYWHERE = "0" * 32 + " " + "0" * 32  # an address and a mask that match all addresses
 ENDS = (("src", "dst"), ("sport", "dport"))
 
 
 def net_words(net: Optional[Net]) -> str:
-    """Returns a network's address and mask as IPv6 hex digits."""
+    """Returns a network's address and mask as hex digits of IPv6; all networks without a network."""
     if net is None:
         return EVERYWHERE
     address, mask = int(net.network_address), int(net.netmask)
@@ -23,17 +23,17 @@ def net_words(net: Optional[Net]) -> str:
     return f"{address:032x} {mask:032x}"
 
 
-def narrower(one: Optional[Net], other: Net) -> Optional[Net]:
-    """Returns the network that two networks share, or None if they are disjoint."""
-    if one is None:
-        return other
-    if one.version != other.version or not one.overlaps(other):
+def narrower(first: Optional[Net], second: Net) -> Optional[Net]:
+    """Returns the network that two networks share, or None if they are disjoint; a first network None contains all addresses."""
+    if first is None:
+        return second
+    if first.version != second.version or not first.overlaps(second):
         return None
-    return one if one.prefixlen >= other.prefixlen else other
+    return first if first.prefixlen >= second.prefixlen else second
 
 
 class Rule:
-    """A rule in short form. Wrong: the text is no rule."""
+    """Describes a rule in short form. Wrong: the text isn't a rule."""
 
     def __init__(self, text: str) -> None:
         try:
@@ -41,37 +41,44 @@ class Rule:
             self.short = short_of(words)
         except BadRule as bad:
             raise Wrong(f"--map {text}: {bad}") from None
-        self.target, self.way = Target(*target), self.short.way
+        self.target = Target(*target)
+        self.way = self.short.way
 
     def nets(self) -> Iterator[tuple[Optional[Net], Optional[Net]]]:
-        """Yields the networks of both ends, for each way to satisfy `host`."""
-        inputs, host = self.short.nets, self.short.nets.get("host")
+        """Yields the networks of the source and the destination. If the rule contains `host`, which matches either end, yields a
+        pair for each end."""
+        nets = self.short.nets
+        host = nets.get("host")
         if host is None:
-            yield inputs.get("src"), inputs.get("dst")
+            yield nets.get("src"), nets.get("dst")
             return
         for end in ENDS[0]:
-            both = {**inputs, end: narrower(inputs.get(end), host)}
-            if both[end] is not None:
-                yield both.get("src"), both.get("dst")
+            overlap = narrower(nets.get(end), host)
+            if overlap is not None:
+                pair = {**nets, end: overlap}
+                yield pair.get("src"), pair.get("dst")
 
     def spans(self) -> Iterator[tuple[PortSpan, PortSpan]]:
-        """Yields the ports of both ends, for each way to satisfy `port`."""
-        inputs = {end: self.short.ports.get(end, EVERY_PORT) for end in ENDS[1]}
-        either = self.short.ports.get("port")
-        if either is None:
-            yield inputs["sport"], inputs["dport"]
+        """Yields the ports of the source and the destination. If the rule contains `port`, which matches either end, yields a pair
+        for each end."""
+        spans = {end: self.short.ports.get(end, EVERY_PORT) for end in ENDS[1]}
+        port = self.short.ports.get("port")
+        if port is None:
+            yield spans["sport"], spans["dport"]
             return
         for end in ENDS[1]:
-            both = inputs[end].both(either)
-            if both is not None:
-                ends = {**inputs, end: both}
-                yield ends["sport"], ends["dport"]
+            overlap = spans[end].both(port)
+            if overlap is not None:
+                pair = {**spans, end: overlap}
+                yield pair["sport"], pair["dport"]
 
     def lines(self, way: int) -> list[str]:
-        """Returns the equivalent lines in the plan of a way."""
-        head = f"map {way} {int(self.target.kind == 'queue')} {self.target.number}"
-        dscp = -1 if self.short.dscp is None else self.short.dscp
+        """Returns the plan's lines that together mean this rule, for packets of a way (one direction of a link)."""
+        kind = 1 if self.target.kind == "queue" else 0
+        dscp = -1 if self.short.dscp is None else self.short.dscp  # -1 means any
+        protocols = self.short.protocols or (-1,)
         return [
-            f"{head} {protocol} {dscp} {net_words(src)} {net_words(dst)} {sport.low} {sport.high} {dport.low} {dport.high}"
-            for protocol, (src, dst), (sport, dport) in product(self.short.protocols or (-1,), self.nets(), self.spans())
+            f"map {way} {kind} {self.target.number} {protocol} {dscp} {net_words(src)} {net_words(dst)}"
+            f" {sport.low} {sport.high} {dport.low} {dport.high}"
+            for protocol, (src, dst), (sport, dport) in product(protocols, self.nets(), self.spans())
         ]

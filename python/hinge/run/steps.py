@@ -1,4 +1,5 @@
-"""The actions that make rooms, recorded as steps: a simulated machine's first process performs them (rooms.c)."""
+"""The actions that make rooms (network namespaces), recorded as steps, which the first process of a simulated machine performs
+(rooms.c)."""
 
 from __future__ import annotations
 
@@ -6,18 +7,21 @@ import threading
 from functools import wraps
 from typing import Any, Callable, Optional, TypeVar, cast
 
-OF_EACH = ("", "lo", "sit0")  # the interfaces that a network of the machine has from the beginning, by their numbers from 1
+FIRST_INTERFACES = ("", "lo", "sit0")  # those of a new network in the machine; their places are the interfaces' numbers, from 1
 Call = TypeVar("Call", bound=Callable[..., Any])
 
 
 class Steps:
-    """The calls while this is the present one. Networks and interfaces are numbers; network 0 belongs to the first process."""
+    """Records the calls of this thread within a `with` block. Each method has the name of the function that it replaces. Networks
+    and interfaces are numbers in place of descriptors; network 0 belongs to the first process."""
 
     def __init__(self, root: str) -> None:
         """`root` is the folder that the machine has at /."""
-        self.root, self.texts = root, list[str]()
-        self.inside, self.interfaces = 0, 0
-        self.names = [[*OF_EACH]]  # of the interfaces of each network
+        self.root = root
+        self.texts = list[str]()  # the steps' words
+        self.network = 0  # the current network's number
+        self.interfaces = 0  # how many there are
+        self.names = [[*FIRST_INTERFACES]]  # for each network, the names of its interfaces
 
     def __enter__(self) -> Steps:
         PRESENT.steps = self
@@ -27,18 +31,18 @@ class Steps:
         PRESENT.steps = None
 
     def see_own_processes(self) -> None:
-        """Nothing: the machine's first process sees no others."""
+        """Does nothing: the machine's first process sees no other processes."""
 
     def unshare(self, _: int) -> None:
-        self.inside = len(self.names)
-        self.names.append([*OF_EACH])
+        self.network = len(self.names)
+        self.names.append([*FIRST_INTERFACES])
         self.texts.append("room")
 
     def this_network(self) -> int:
-        return self.inside
+        return self.network
 
     def enter(self, network: int) -> None:
-        self.inside = network
+        self.network = network
         self.texts += ["enter", str(network)]
 
     def try_to_write(self, path: str, text: str) -> None:
@@ -48,21 +52,21 @@ class Steps:
         self.texts += ["over", path, text]
 
     def open_tun(self, name: str, flags: int, offload: int, persists: bool) -> int:
-        self.names[self.inside].append(name)
+        self.names[self.network].append(name)
         self.interfaces += 1
         self.texts += ["tun", name, str(flags), str(offload), str(self.index_of(name))]
         return self.interfaces - 1
 
     def index_of(self, name: str) -> int:
-        return self.names[self.inside].index(name)
+        return self.names[self.network].index(name)
 
     def send_batch(self, data: bytes, requests: "list[Any]") -> None:
         self.texts += ["ask", str(len(requests)), data.hex()]
 
 
 class Present(threading.local):
-    """Each thread's steps, as a search plans several machines at a time: the end of another thread must not perform this thread's
-    calls here."""
+    """Holds each thread's steps. A search plans several machines at a time: when a thread ends its recording, the calls of other
+    threads must still be recorded."""
 
     steps: Optional[Steps] = None
 
@@ -71,16 +75,18 @@ PRESENT = Present()
 
 
 def kept_as_step(do: Call) -> Call:
-    """Returns a call that the present steps record, if there are any."""
+    """Wraps a function: while this thread records steps, a call is recorded instead; returns the new function."""
 
     @wraps(do)
-    def either(*words: Any, **more: Any) -> Any:
+    def record_or_do(*arguments: Any, **named_arguments: Any) -> Any:
         steps = PRESENT.steps
-        return getattr(steps, do.__name__)(*words, **more) if steps else do(*words, **more)
+        function = getattr(steps, do.__name__) if steps else do
+        return function(*arguments, **named_arguments)
 
-    return cast(Call, either)
+    return cast(Call, record_or_do)
 
 
 def at_root(path: str) -> str:
-    """Returns the place of a file of the rooms' system."""
-    return (PRESENT.steps.root if PRESENT.steps else "") + path
+    """Returns the path at which this process finds a file of the rooms' system."""
+    root = PRESENT.steps.root if PRESENT.steps else ""
+    return root + path

@@ -1,4 +1,4 @@
-"""Linux system calls missing from Python's standard library before 3.12: namespaces, mounts, and capabilities to keep."""
+"""Linux system calls that Python's standard library lacks before 3.12, for namespaces, mounts and capabilities."""
 
 from __future__ import annotations
 
@@ -38,23 +38,25 @@ class Missing(Fault):
 
 
 def is_simulated() -> bool:
-    """Returns whether this is a simulated machine, whose kernel reports the time that it gave to spinning processes."""
+    """Returns whether this process runs in a simulated machine, whose kernel alone has the file /proc/spun."""
     return os.path.exists("/proc/spun")
 
 
 def must(result: int) -> None:
+    """Checks the result of a system call. OSError: the result is negative; the error has the number from the C library."""
     if result < 0:
         number = ctypes.get_errno()
         raise OSError(number, os.strerror(number))
 
 
-def exchange(one: str, other: str) -> None:
+def exchange(first: str, second: str) -> None:
     """Swaps the names of two files or folders atomically."""
-    must(libc.renameat2(FROM_HERE, os.fsencode(one), FROM_HERE, os.fsencode(other), EXCHANGE))
+    must(libc.renameat2(FROM_HERE, os.fsencode(first), FROM_HERE, os.fsencode(second), EXCHANGE))
 
 
 @kept_as_step
 def unshare(flags: int) -> None:
+    """Moves this process into new namespaces of the kinds in `flags`."""
     must(libc.unshare(flags))
 
 
@@ -71,36 +73,38 @@ def enter(network: int) -> None:
 
 def mount(source: str, target: str, kind: str, flags: int, more: Optional[str] = None) -> None:
     """Mounts a file system; `more` contains its options."""
-    must(
-        libc.mount(os.fsencode(source), os.fsencode(target), kind.encode(), ctypes.c_ulong(flags), more.encode() if more else None)
-    )
+    options = more.encode() if more else None
+    must(libc.mount(os.fsencode(source), os.fsencode(target), kind.encode(), ctypes.c_ulong(flags), options))
 
 
 def unmount(target: str) -> None:
-    """Unmounts a file system, which disappears when the last process stops using it."""
+    """Unmounts a file system, which remains until the last process stops using it."""
     must(libc.umount2(os.fsencode(target), DETACH))
 
 
 def keep_mounts_to_itself() -> None:
     """Keeps this namespace's mounts from spreading to other namespaces.
 
-    The kernel only accepts this at the root of a file system, which a chroot's root isn't. So the call uses the namespace's
-    root."""
+    The kernel only accepts this at the root of a file system. A chroot's root usually isn't one; the call then uses the namespace's
+    root, and returns to the chroot."""
     try:
         mount("none", "/", "none", REC | PRIVATE)
     except OSError as error:
         if error.errno != errno.EINVAL:
             raise
-        root, place, own = (held(name) for name in ("/", ".", "/proc/thread-self/ns/mnt"))
-        must(libc.setns(own, NEWNS))
+        root = held("/")
+        folder = held(".")
+        own_mounts = held("/proc/thread-self/ns/mnt")
+        must(libc.setns(own_mounts, NEWNS))  # which also moves this process to the namespace's root
         mount("none", "/", "none", REC | PRIVATE)
         os.fchdir(root)
         os.chroot(".")
-        os.fchdir(place)
+        os.fchdir(folder)
 
 
 def die_with_parent(parent: int = 0, number: int = KILL) -> None:
-    """Sends this process a signal when its parent ends, or at once if `parent` is given and has already ended."""
+    """Makes the kernel send this process a signal when the parent ends. If the process `parent` has already ended, sends the signal
+    at once."""
     libc.prctl(SET_PDEATHSIG, number)
     if parent and os.getppid() != parent:
         os.kill(os.getpid(), number)
@@ -109,20 +113,22 @@ def die_with_parent(parent: int = 0, number: int = KILL) -> None:
 def keep_network_rights() -> None:
     """Lets later programs use raw sockets, ports below 1024 and the namespace's interfaces without root."""
     rights = (BIND_SERVICE, NET_ADMIN, NET_RAW)
-    part = sum(1 << right for right in rights)
-    libc.syscall(CAPSET, struct.pack("Ii", CAPABILITY_VERSION, 0), struct.pack("6I", part, part, part, 0, 0, 0))
+    bits = sum(1 << right for right in rights)
+    # The bits of the effective, permitted and inheritable rights, and then the higher bits of each.
+    libc.syscall(CAPSET, struct.pack("Ii", CAPABILITY_VERSION, 0), struct.pack("6I", bits, bits, bits, 0, 0, 0))
     for right in rights:
         libc.prctl(AMBIENT, AMBIENT_RAISE, right, 0, 0)
 
 
 def write(path: str, text: str) -> None:
+    """Writes a text into a file."""
     with open(path, "w") as file:
         file.write(text)
 
 
 @kept_as_step
 def try_to_write(path: str, text: str) -> None:
-    """Writes a setting; ignores a setting that doesn't exist or can't be written."""
+    """Writes a kernel setting; does nothing if the setting doesn't exist or can't be written."""
     with suppress(OSError):
         write(path, text)
 

@@ -1,4 +1,4 @@
-"""The files of a transcript. A transcript continues in another file before the audit's limit."""
+"""The files of a transcript, which is the history of a link. A transcript continues in another file before the audit's limit."""
 
 from __future__ import annotations
 
@@ -9,12 +9,13 @@ from hinge.border.files import is_beside
 from hinge.outputs import is_file, is_planted, place
 from hinge.run.words import Wrong
 
-KEPT = "/run/kept"  # in a simulated machine: what outlives it, which the launcher tells of
-AUDITED = 268_435_456  # bytes: the most that an audit reads without being told
+KEPT = "/run/kept"  # a folder in a simulated machine; the launcher copies its files at the end, and reports them
+AUDITED = 268_435_456  # the most bytes that an audit reads without an option
 
 
 def refuse_own_input(option: str, path: Optional[str], others: Iterable[Optional[str]]) -> None:
-    """Wrong: an output file is also read, or written twice, and would be emptied."""
+    """Checks that an output file isn't also an input or another output, `others`, and would be emptied. Wrong: it is, or its name
+    contains a line feed."""
     if path is None:
         return
     if "\n" in os.path.abspath(path):
@@ -25,37 +26,39 @@ def refuse_own_input(option: str, path: Optional[str], others: Iterable[Optional
 
 
 def refuse_lost(option: str, path: Optional[str], others: Iterable[Optional[str]]) -> None:
-    """Wrong: the same, or the file can't be written; found out before the run."""
+    """Checks before the run that an output file can be written, and isn't one of the files `others`. Wrong: it can't, or is."""
     refuse_own_input(option, path, others)
     if path is None or path == "-":
         return
-    if (
-        os.path.isdir(path)
-        or is_planted(path)
-        or not os.access(path if os.path.exists(path) else os.path.dirname(path) or ".", os.W_OK)
-    ):
+    place_to_write = path if os.path.exists(path) else os.path.dirname(path) or "."
+    if os.path.isdir(path) or is_planted(path) or not os.access(place_to_write, os.W_OK):
         raise Wrong(f"{option} {path}: it can't be written")
 
 
 def parts_of(transcript: str, count: int) -> list[str]:
+    """Returns the paths of a transcript in `count` files."""
     return [transcript, *(f"{transcript}.{number}" for number in range(1, count))]
 
 
 def files_of(transcript: str) -> list[str]:
-    """Returns the existing files of a transcript. The first is always included, and reported as missing when it is read."""
-    result = [transcript]
-    while is_beside(following := f"{transcript}.{len(result)}"):
-        result.append(following)
-    return result
+    """Returns the existing files of a transcript, and always the first, whose absence a reader reports."""
+    files = [transcript]
+    following = f"{transcript}.1"
+    while is_beside(following):
+        files.append(following)
+        following = f"{transcript}.{len(files)}"
+    return files
 
 
-def told(transcript: str, count: int) -> Iterator[str]:
-    """Yields lines about the files for the user."""
+def lines_about_files(transcript: str, count: int) -> Iterator[str]:
+    """Yields lines for the user about a transcript in several files, and about files that are too large for an audit without
+    options."""
     parts = [] if transcript.startswith(f"{KEPT}/") else parts_of(transcript, count)
     if len(parts) > 1:
-        some = f"{parts[0]}, {parts[1]}{' ..' if count > 2 else ''}"
-        yield f"the transcript is in {count} files, of which each is audited by itself: {some}"
+        first_files = f"{parts[0]}, {parts[1]}" + (" .." if count > 2 else "")
+        yield f"the transcript is in {count} files, of which each is audited by itself: {first_files}"
     for part in parts:
-        if os.path.exists(part) and (size := os.path.getsize(part)) > AUDITED:
+        size = os.path.getsize(part) if os.path.exists(part) else 0
+        if size > AUDITED:
             audit = f"dummynet audit --most-history {size} {part}"
             yield f"{part} has {size} bytes, since the link was never idle; its audit: {audit}"

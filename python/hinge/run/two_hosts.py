@@ -7,23 +7,26 @@ from typing import NamedTuple
 
 from hinge.run.words import Wrong
 
-MOST_BITS, FEWEST_BITS = 30, 8  # of a network that has two hosts, and of one that leaves others
+MOST_BITS = 30  # the longest prefix of a network with two hosts
+FEWEST_BITS = 8  # the shortest prefix, which leaves other networks
 
 
 class Ends(NamedTuple):
+    """Holds the addresses of the client and the server, and their network."""
+
     client: str
     server: str
     client6: str
     server6: str
     network: str
-    bits: int  # of the addresses of IPv4 that are the network's
+    bits: int  # the length of the IPv4 network's prefix
 
     def names(self) -> str:
         """Returns lines for /etc/hosts."""
         return f"{self.server} server\n{self.client} client\n{self.server6} server6\n{self.client6} client6\n"
 
     def names_of_six(self) -> str:
-        """Returns lines that add IPv6 addresses to `server` and `client`."""
+        """Returns lines for /etc/hosts that give the names `server` and `client` IPv6 addresses, too."""
         return f"{self.server6} server\n{self.client6} client\n"
 
 
@@ -31,8 +34,9 @@ OWN = Ends("10.8.0.1", "10.8.0.2", "fd08::1", "fd08::2", "10.8.0.0/24", 24)
 
 
 def ends_of(text: str | None) -> Ends:
-    """Returns the first two addresses of a network. Their IPv6 addresses are in fd08::, numbered like the network. Wrong: the text
-    is no such network."""
+    """Returns the first two addresses of an IPv4 network, with IPv6 addresses in fd08:: that contain the network's number. Without
+    a network, returns the usual addresses. Wrong: the text isn't a network, or the network is too small, too large or for other
+    purposes."""
     if text is None:
         return OWN
     try:

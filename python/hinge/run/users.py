@@ -1,6 +1,6 @@
-"""The users of the rooms: this process's user, and subordinate users if the system provides some (subuid(5)).
+"""The users in a run's rooms: this process's user, and subordinate users if the system provides some (subuid(5)).
 
-Servers then find the groups to which they assign files, such as the group of terminals."""
+With subordinate users, servers find the groups to which they assign files, such as the group of terminals."""
 
 from __future__ import annotations
 
@@ -27,7 +27,8 @@ class Subordinate(NamedTuple):
 
 
 def subordinate(path: str, user: int) -> Optional[Subordinate]:
-    """Returns the first range for a user in a file, which lists names or numbers."""
+    """Returns the first range of subordinate users for a user in a file such as /etc/subuid; None if there is no range. The file
+    contains the user's name or number."""
     names = {str(user)}
     with suppress(KeyError):
         names.add(pwd.getpwuid(user).pw_name)
@@ -35,41 +36,55 @@ def subordinate(path: str, user: int) -> Optional[Subordinate]:
         rows = [line.strip().split(":") for line in read_system(path).splitlines()]
     except OSError:
         return None
-    result = [row for row in rows if len(row) == 3 and row[0] in names and row[1].isdecimal() and row[2].isdecimal()]
-    return Subordinate(int(result[0][1]), int(result[0][2])) if result else None
+    for row in rows:
+        if len(row) == 3 and row[0] in names and row[1].isdecimal() and row[2].isdecimal():
+            return Subordinate(int(row[1]), int(row[2]))
+    return None
 
 
 def mapping(own: int, span: Subordinate) -> list[str]:
-    """Returns the arguments for newuidmap: the user keeps its number, and all other users, from 0 on, are subordinate."""
-    below = min(own, span.length)
-    parts = [(0, span.first, below), (own, own, 1), (own + 1, span.first + below, span.length - below if own < span.length else 0)]
-    return [str(number) for part in parts if part[2] for number in part]
+    """Returns arguments for newuidmap or newgidmap: the user (or group) keeps the number `own`, and the subordinate users get the
+    other numbers from 0 on."""
+    below = min(own, span.length)  # how many numbers are below the user's own
+    parts = [(own, own, 1)]  # each has a number inside, the same user's number outside, and a length
+    if below:
+        parts.insert(0, (0, span.first, below))
+    if own < span.length:
+        parts.append((own + 1, span.first + below, span.length - below))
+    return [str(number) for part in parts for number in part]
 
 
 class Users:
-    """Maps users. Create it before the process leaves the system's users.
+    """Maps the users of a new user namespace. Create this object before this process leaves the system's users.
 
-    A child process stays behind, and maps the new namespace's users on request."""
+    A child process stays there, and maps the new namespace's users on request."""
 
     def __init__(self) -> None:
-        self.child, self.own = 0, {"uid": os.geteuid(), "gid": os.getegid()}
-        spans = {kind: subordinate(path, os.geteuid()) for kind, path in FILES.items()}
-        words = {
-            kind: [PROGRAMS[kind], str(os.getpid()), *mapping(self.own[kind], result)] for kind, result in spans.items() if result
-        }
-        if len(words) < len(FILES) or not all(map(shutil.which, PROGRAMS.values())):
+        self.child = 0  # no process
+        self.own = {"uid": os.geteuid(), "gid": os.getegid()}
+        programs = list[list[str]]()  # with their arguments
+        for kind, path in FILES.items():
+            span = subordinate(path, os.geteuid())
+            if span:
+                programs.append([PROGRAMS[kind], str(os.getpid()), *mapping(self.own[kind], span)])
+        if len(programs) < len(FILES) or not all(map(shutil.which, PROGRAMS.values())):
             return
         read_end, self.write_end = os.pipe()
-        self.child = forked(lambda: self.map_when_told(read_end, list(words.values())))
+        self.child = forked(lambda: self.map_on_request(read_end, programs))
         os.close(read_end)
 
-    def map_when_told(self, read_end: int, programs: list[list[str]]) -> int:
+    def map_on_request(self, read_end: int, programs: list[list[str]]) -> int:
+        """Runs the programs that map users and groups, after a byte arrives. Returns 0, or 1 if no byte arrives."""
         os.close(self.write_end)
-        silence(2)  # where one of them refuses, the user is alone there
-        return 0 if os.read(read_end, 1) and [asked(words) for words in programs] else 1
+        silence(2)  # a program may refuse, and then there is only this user
+        if not os.read(read_end, 1):
+            return 1
+        for words in programs:
+            asked(words)
+        return 0
 
     def map(self, is_new: bool) -> None:
-        """Maps the users of a new namespace; without subordinate users, only this user."""
+        """Maps the users if there is a new user namespace; without subordinate users, only this user."""
         has_others = False
         if self.child:
             if is_new:
@@ -80,6 +95,7 @@ class Users:
             self.map_own()
 
     def map_own(self) -> None:
+        """Maps only this process's user and group. PermissionError: the system refuses."""
         write("/proc/self/setgroups", "deny")
         for kind, own in self.own.items():
             try:

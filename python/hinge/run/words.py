@@ -3,7 +3,7 @@
 from __future__ import annotations
 
 import re
-from contextlib import contextmanager, suppress
+from contextlib import contextmanager
 from functools import lru_cache
 from typing import Callable, Iterator, NamedTuple, Optional
 
@@ -14,12 +14,12 @@ from hinge.events.forms import CHANGES, line_meant
 from hingetulip_words.link import Extra, LinkWords, Place, WordError, corrected, read_words
 
 WAYS = {"up": 0, "down": 1}
-LINES = ("pipe", "queue", "ipfw")  # what a configuration line begins with
+LINES = ("pipe", "queue", "ipfw")  # the first words of configuration lines
 SECOND = 1_000_000_000  # ns
-LONGEST = 1 << 16  # letters of a line of a file
-LAST_MOMENT = 2**62  # ns, of the links
+LONGEST = 1 << 16  # the most letters in a line of a file
+LAST_MOMENT = 2**62  # ns, on the links' clock
 MTU_LEAST, MTU_MOST = 576, 65535  # bytes
-KEPT = 1 << 12  # texts whose meaning is remembered, since long files say the same again and again
+KEPT = 1 << 12  # how many texts' meanings a cache keeps, since long files repeat the same texts
 SCALE = {"ns": 1, "us": 10**3, "ms": 10**6, "s": SECOND, "min": 60 * SECOND, "h": 3600 * SECOND}
 TIME = re.compile(rf"(\d+(?:\.\d+)?)({'|'.join(SCALE)})?", re.ASCII)
 NO_EXTRA = Extra()
@@ -33,7 +33,8 @@ class Wrong(Fault):
 
 @contextmanager
 def placed(place: str) -> Iterator[None]:
-    """Adds its place to the error of a wrong word, unless the error names the place."""
+    """Puts a place, such as a file and its line, before the message of a Wrong from the block, unless the message begins with the
+    place."""
     try:
         yield
     except Wrong as wrong:
@@ -42,23 +43,28 @@ def placed(place: str) -> Iterator[None]:
 
 @contextmanager
 def read_as_change(line: str) -> Iterator[None]:
-    """Replaces a timeline's error with the line to write, if known."""
+    """Replaces the message of a Wrong from the block by the line of a timeline that the user probably meant, if there is such a
+    line."""
     from hinge.events.link_words import link_event  # which needs this module
 
     try:
         yield
     except Wrong:
-        (word, text), may_be = first_word(meant := line_meant(line, CHANGES)), False
-        with suppress(Wrong):
-            may_be = duration(word) >= 0 and bool(link_event(text, word))
-        if may_be:
-            raise Wrong(f"{line!r}: not a change; write {meant}") from None
+        advice = line_meant(line, CHANGES)
+        word, text = first_word(advice)
+        try:
+            duration(word)
+            link_event(text, word)
+        except Wrong:
+            advice = ""
+        if advice:
+            raise Wrong(f"{line!r}: not a change; write {advice}") from None
         raise
 
 
 def duration(text: str, option: str = "") -> int:
-    """Returns a time such as 5s, 600ms or 2min in ns; the default unit is seconds. Wrong: no time, or too long; the message
-    names `option`."""
+    """Returns the ns of a time such as 5s, 600ms or 2min; a number without a unit means seconds. Wrong: the text isn't a time, or
+    the time is above 2^62 ns; `option` begins the message."""
     match = TIME.fullmatch(text)
     place = f"{option} {text}".lstrip()
     if not match:
@@ -71,32 +77,36 @@ def duration(text: str, option: str = "") -> int:
 
 
 def length_of(text: str, option: str = "") -> int:
-    """Returns the ns of a length. Wrong: the text is no time, or 0."""
-    result = duration(text, option)
-    if not result:
-        raise Wrong(f"{f'{option} {text}'.lstrip()}: nothing happens in no time; write a duration above 0 (example: 600ms)")
-    return result
+    """Returns the ns of a length of time. Wrong: the text isn't a time, or the time is 0 ns; `option` begins the message."""
+    length = duration(text, option)
+    if not length:
+        place = f"{option} {text}".lstrip()
+        raise Wrong(f"{place}: nothing happens in no time; write a duration above 0 (example: 600ms)")
+    return length
 
 
 def bytes_of_mtu(text: str) -> int:
+    """Returns the bytes of an MTU. Wrong: the text isn't a number in the range."""
     if not (text.isascii() and text.isdecimal() and MTU_LEAST <= int(text) <= MTU_MOST):
         raise Wrong(f"{text!r} isn't a number from {MTU_LEAST} to {MTU_MOST}")
     return int(text)
 
 
 def bare(line: str) -> str:
-    """Returns a line without its comment, with single blanks."""
+    """Returns a line without its comment, with single blanks between words."""
     return " ".join(line.partition("#")[0].split())
 
 
 def first_word(text: str) -> tuple[str, str]:
-    """Returns the first word, or an empty text, and the rest."""
-    word, rest = (*text.split(None, 1), "", "")[:2]
+    """Returns a text's first word and the rest; both are empty if the text is empty."""
+    words = text.split(None, 1)
+    word = words[0] if words else ""
+    rest = words[1] if len(words) > 1 else ""
     return word, rest.strip()
 
 
 def read_lines(path: str, lines: Optional[int] = MOST_LINES) -> Iterator[str]:
-    """Yields the lines of a text file. Wrong: the file can't be read, or has too many lines."""
+    """Yields the lines of a text file. Wrong: the file can't be read, or has more than `lines` lines."""
     try:
         yield from lines_in(path, LONGEST, lines, said=lines and MOST_SAID)
     except Fault as fault:
@@ -110,7 +120,7 @@ read_once = lru_cache(KEPT)(read_words)
 
 @lru_cache(KEPT)
 def read_alone(word: str) -> dict[str, str]:
-    """Returns the options of a word that alone describes a link everywhere, such as 10Mbit/s or 20ms; an empty dict for other
+    """Returns the options of a word that describes a link without another word, such as 10Mbit/s or 20ms; an empty dict for other
     words."""
     try:
         return read_words(word, Place.CHANGE).options
@@ -119,60 +129,73 @@ def read_alone(word: str) -> dict[str, str]:
 
 
 def of_such_words(text: str) -> Optional[LinkWords]:
-    """Returns the link if each word describes a property by itself, without repetitions. Long files consist mostly of such links,
-    and seldom repeat a text."""
+    """Returns the link if each word describes a property by itself and no property is repeated; otherwise None. This is fast: long
+    files consist mostly of such links, and seldom repeat a text."""
     options: dict[str, str] = {}
     for word in text.split(" "):
-        more = read_alone(word)
-        if not more or more.keys() & options:
+        word_options = read_alone(word)
+        if not word_options or word_options.keys() & options:
             return None
-        options.update(more)
+        options.update(word_options)
     return LinkWords(options, NO_EXTRA)
 
 
 def link_of(text: str, option: str, place: Place = Place.CHANGE) -> LinkWords:
-    """Returns the link for `10Mbit/s 20ms queue 100 loss 1%`. Wrong: the text is no link; the message names `option` and
-    corrects the whole text."""
+    """Returns the link for words such as `10Mbit/s 20ms queue 100 loss 1%`. Wrong: the text isn't a link; the message begins with
+    `option`, and contains the corrected text, if possible."""
     try:
         return of_such_words(text) or read_once(text, place)
     except WordError as wrong:
-        whole = corrected(text, place)
-        raise Wrong(f"{option}: {wrong}" + (f"; in full: '{whole}'" if whole not in (None, wrong.right()) else "")) from None
+        message = f"{option}: {wrong}"
+        corrected_text = corrected(text, place)
+        if corrected_text not in (None, wrong.right()):
+            message += f"; in full: '{corrected_text}'"
+        raise Wrong(message) from None
 
 
 class Target(NamedTuple):
-    """The target of a line: `pipe` or `queue`, and its number, or 0 without one."""
+    """Describes what a line configures: `pipe` or `queue`, and the number, which is 0 if the line has no number."""
 
     kind: str
     number: int
 
 
 def target_of(line: str) -> Target:
+    """Returns what a line configures; for lines of other kinds, the first word and number."""
     words = [word for word in line.split(None, 4)[:4] if word != "ipfw"]
-    numbers = [word for word in words[1:3] if is_number(word)]
-    return Target(words[0] if words else "", int(numbers[0]) if numbers else 0)
+    kind = words[0] if words else ""
+    numbers = [int(word) for word in words[1:3] if is_number(word)]
+    return Target(kind, numbers[0] if numbers else 0)
 
 
 def renumbered(line: str, pipe: Callable[[int], int], queue: Callable[[int], int]) -> str:
-    """Replaces a link's pipe numbers 1 and 2, and its queue numbers, with those among all links; returns the line."""
+    """Returns a configuration line with other numbers, which the functions `pipe` and `queue` return for the line's own numbers."""
     words = bare(line).split()
-    words = words[words[:1] == ["ipfw"] :]
-    kinds = {"pipe": pipe, "queue": queue}
+    if words[:1] == ["ipfw"]:
+        del words[0]
+    functions = {"pipe": pipe, "queue": queue}
     for at, word in enumerate(words[:-1]):
-        place = at + 1 + (words[at + 1] == "delete" and at + 2 < len(words))
-        is_numbered = at == 0 and word in kinds or word == "pipe" and words[0] == "queue"
+        is_numbered = at == 0 and word in functions or word == "pipe" and words[0] == "queue"
+        place = at + 1
+        if words[place] == "delete" and place + 1 < len(words):
+            place += 1
         if is_numbered and is_number(words[place]):
-            words[place] = str(kinds[word](int(words[place])))
+            words[place] = str(functions[word](int(words[place])))
     return " ".join(words)
 
 
 def of_link(line: str, link: int) -> str:
-    """Translates a line from pipes 1 and 2 of a link, counted from 0, to the plan's pipes; returns the line."""
-    return renumbered(line, lambda pipe: pipe + 2 * link * (pipe in (1, 2)), int) if link else line
+    """Returns a configuration line of a link, which is counted from 0, with the plan's pipes in place of the link's pipes 1 and
+    2."""
+    if not link:
+        return line
+    pipes = {1: 2 * link + 1, 2: 2 * link + 2}
+    return renumbered(line, lambda pipe: pipes.get(pipe, pipe), int)
 
 
 def is_line(text: str) -> bool:
-    """Returns whether the text is a configuration line; `queue 7` alone is a link's words."""
+    """Returns whether the text is a configuration line. `queue 7` without further words isn't, since these words describe a
+    link."""
     if not text.startswith(LINES):
         return False
     first, *words = text.split(None, 3)[:3]
@@ -180,6 +203,7 @@ def is_line(text: str) -> bool:
 
 
 def configures(line: str) -> bool:
+    """Returns whether a configuration line contains the word `config`."""
     return "config" in line.split()[:4]
 
 

@@ -21,7 +21,7 @@ from hinge.run.system import Missing
 from hinge.run.words import Wrong
 from hinge.run.processes import SIGNALLED
 from hinge.run.summary import FORMAT
-from hinge.run.transcripts import KEPT, parts_of, told
+from hinge.run.transcripts import KEPT, lines_about_files, parts_of
 from hinge.simulated.job import Job, environment, limit_in_ns, real_limit_of, refuse_outside, root_of, words_of_net
 from hinge.simulated.kernel import Kernel, usable_kernel
 from hinge.simulated.likeness import earlier, remarks
@@ -135,7 +135,7 @@ def hand_over(machine: Machine, transcript: Optional[str]) -> None:
         for part, target in zip(parts_of(str(store / MACHINE_HISTORY), count), parts_of(transcript, count)):
             with written(target) as place:
                 shutil.copyfile(part, place)
-        for line in told(transcript, count):
+        for line in lines_about_files(transcript, count):
             say(line)
 
 

@@ -231,7 +231,7 @@ class OfTheWayOut(unittest.TestCase):
         for parts in ((b"7 True", b"!"), (b"!", b"7 True")):
             told: "list[tuple[object, ...]]" = []
             read_end, write_end = os.pipe()
-            outside = mock.Mock(write_end=os.dup(write_end), said=os.open(os.devnull, os.O_WRONLY))
+            outside = mock.Mock(write_end=os.dup(write_end), output=os.open(os.devnull, os.O_WRONLY))
             self.addCleanup(os.close, read_end)
             own = {name: mock.Mock() for name in ("die_with_parent", "become")}
             own["words_for"] = mock.Mock(side_effect=lambda *words: told.append(words))
@@ -239,11 +239,11 @@ class OfTheWayOut(unittest.TestCase):
                 os.write(write_end, parts[0])
                 later = threading.Timer(0.05, os.write, (write_end, parts[1]))
                 later.start()
-                Outside.join_what_is_told(outside, read_end)
+                Outside.wait_and_connect(outside, read_end)
                 later.join()
             self.assertEqual(told[0][:2], ("7", True))
             os.close(write_end)
-            os.close(outside.said)
+            os.close(outside.output)
 
 
 class OfTheEnd(InAFolder):

@@ -20,7 +20,7 @@ from hinge.run.page import BINS, COUNTS, ENDED_WELL, HEAD, WAY, Counts, Times
 from hinge.run.plan import Plan
 from hinge.run.settings import LiveOptions, NetOptions, RunOptions
 from hinge.run.summary import cautions, line, void
-from hinge.run.transcripts import AUDITED, told
+from hinge.run.transcripts import AUDITED, lines_about_files
 from hinge.run.words import Wrong, duration
 from net_files import OfFiles
 
@@ -174,13 +174,13 @@ class OfTranscripts(OfFiles):
         """If a file is too long for an immediate audit, the summary contains the command for one, and otherwise nothing."""
         path = self.file("dummynet-live,1\n#" + "x" * 100 + "\nend,0\n")
         with open(path, "r+b") as file:
-            assert list(told(path, 1)) == []
+            assert list(lines_about_files(path, 1)) == []
             file.seek(AUDITED - 1)
             file.write(b"\n")
-        assert list(told(path, 1)) == []
+        assert list(lines_about_files(path, 1)) == []
         with open(path, "ab") as file:
             file.write(b"\n")
-        [line] = told(path, 1)
+        [line] = lines_about_files(path, 1)
         size, command = AUDITED + 1, line.rpartition(": ")[2]
         assert (line.partition(",")[0], command) == (f"{path} has {size} bytes", f"dummynet audit --most-history {size} {path}")
         refused, read = (
