@@ -1,4 +1,4 @@
-"""The words of events, whose forms a help lists, and what people write instead of lines with them."""
+"""The words that name events in a net's file: their forms for the help, and corrections of lines that people often write instead."""
 
 from __future__ import annotations
 
@@ -9,7 +9,7 @@ from hingetulip_words.values import FACTOR, PER_SECOND
 
 
 class Word(NamedTuple):
-    """A word of an `at` line and of `hinge change`."""
+    """Describes a word that begins an event in an `at` line or in `hinge change`, such as cut or kill."""
 
     form: str
     effect: str
@@ -78,7 +78,8 @@ CHANGES = (  # the same of a timeline
 
 
 def line_meant(text: str, forms: "Sequence[tuple[str, str]]" = NET_LINES) -> str:
-    """Returns a line of a net or timeline that means the same, or an empty text."""
+    """Returns the right line for a net's file (for a timeline with the forms CHANGES) in place of a line that people write by
+    mistake. Returns an empty text if no form fits."""
     line = text
     for pattern, form in forms:
         match = re.fullmatch(pattern, line)
@@ -87,6 +88,6 @@ def line_meant(text: str, forms: "Sequence[tuple[str, str]]" = NET_LINES) -> str
 
 
 def help_lines() -> str:
-    """Returns the forms of lines `at` with their effects, for a help."""
+    """Returns the help's text about `at` lines: the form of each event, followed by the event's effect."""
     forms = {f"  at TIME {word.form}": word.effect for word in WORDS.values()}
     return "".join(f"{form:38}{effect}\n" if len(form) < 38 else f"{form}\n{'':38}{effect}\n" for form, effect in forms.items())

@@ -1,4 +1,4 @@
-"""The events of a run: actions of a file, a seed, the control socket or Python on links and hosts."""
+"""The kinds of events in a run: changes to links, and acts on hosts."""
 
 from __future__ import annotations
 
@@ -15,12 +15,12 @@ ENDINGS = {word.ending for word in WORDS.values() if word.ending}
 
 
 def spelled_ns(ns: int) -> str:
-    """Spells a time as 1.5s."""
+    """Returns a time in ns as a text in seconds, such as 1.5s."""
     return f"{ns / SECOND:.9f}".rstrip("0").rstrip(".") + "s"
 
 
 class Moment(NamedTuple):
-    """An `at` line's moment, counted from the start of the links or the main command."""
+    """Describes an `at` line's moment, counted from the links' start or the main command's start."""
 
     ns: int
     of_main: bool
@@ -31,7 +31,7 @@ class Moment(NamedTuple):
 
 
 class Port(NamedTuple):
-    """The packets to and from a port."""
+    """Describes a TCP or UDP port, for a cut that loses only the packets to and from this port."""
 
     protocol: int
     number: int
@@ -39,7 +39,7 @@ class Port(NamedTuple):
 
 @dataclass(frozen=True)
 class Event:
-    """An event on ways or a host. Link L, counted from 0, has the ways 2L and 2L + 1."""
+    """Describes an event on a host or on ways (directions of links). Link L, counted from 0, has the ways 2L and 2L + 1."""
 
     of: "tuple[Union[int, str], ...]"  # the ways, or the host
     words: str  # of the `at` line, behind the moment
@@ -49,12 +49,13 @@ class Event:
 
     @property
     def ways(self) -> "list[int]":
+        """Returns the numbers of the event's ways; an empty list for an event on a host."""
         return [one for one in self.of if isinstance(one, int)]
 
 
 @dataclass(frozen=True)
 class Cut(Event):
-    """A cut of a host's links: all links, or the links to some hosts."""
+    """Describes a cut: a host's links, or only the links to some hosts, lose packets."""
 
     word, ending = "cut", "heal"
     length: int = LAST_MOMENT
@@ -62,26 +63,29 @@ class Cut(Event):
 
 @dataclass(frozen=True)
 class Heal(Event):
+    """Describes an event that ends cuts and lossy outages early."""
+
     word = "heal"
 
 
 @dataclass(frozen=True)
 class HoldingOutage(Event):
-    """An outage in which packets wait."""
+    """Describes a link's outage, during which packets wait until the outage ends."""
 
     length: int = LAST_MOMENT
 
 
 @dataclass(frozen=True)
 class LossyOutage(HoldingOutage):
-    """An outage that loses all packets."""
+    """Describes a link's outage that loses packets."""
 
     ending = "heal"
 
 
 @dataclass(frozen=True)
 class NewWords(Event):
-    """Words that replace a link's words, after its ends in a net and the way's `up` or `down`."""
+    """Describes new words for a link, such as `10Mbit/s 20ms`. In a net, `ends` names the link's two hosts. If only one way
+    changes, `side` is `up` or `down`."""
 
     links: "tuple[LinkWords, ...]" = ()
     ends: str = ""
@@ -90,14 +94,14 @@ class NewWords(Event):
 
 @dataclass(frozen=True)
 class NewLine(Event):
-    """A configuration line, in which pipe 1 leads from the host that the event names first."""
+    """Describes a configuration line for a link's emulator. Pipe 1 leads from the host that the event names first."""
 
     line: str = ""
 
 
 @dataclass(frozen=True)
 class HostAct(Event):
-    """An event on a host: on its processes, its disks or its clock."""
+    """Describes an event on a host: on the host's processes, disks or clock."""
 
     word: str = ""
     length: int = LAST_MOMENT
@@ -113,7 +117,7 @@ class HostAct(Event):
 
 
 class TimedEvent(NamedTuple):
-    """An event of an `at` line."""
+    """Describes an event of an `at` line, with its moment."""
 
     moment: Moment
     event: Event
@@ -124,7 +128,7 @@ class TimedEvent(NamedTuple):
 
 
 class PlannedAct(NamedTuple):
-    """A host's fault, or its end."""
+    """Describes a host's fault at a moment (kill, crash, stop or skew), or the end of such a fault (restart or cont)."""
 
     moment: Moment
     word: str
@@ -134,12 +138,12 @@ class PlannedAct(NamedTuple):
 
 
 def kept(event: Event) -> Event:
-    """Returns an event without links, since the plan keeps their lines."""
+    """Returns the event that a net remembers: without new words for links, because the plan has them as configuration lines."""
     return replace(event, links=(), ends="") if isinstance(event, NewWords) else event
 
 
 class FaultEnds:
-    """The moments and places of events that end faults, in order, for each base, word, way or host, and port."""
+    """Finds the events that end faults, such as a heal after a cut. An event's place is its index in the list of all events."""
 
     def __init__(self, events: Sequence[TimedEvent]) -> None:
         self.table = defaultdict[tuple[bool, str, Union[int, str], Optional[Port]], list[tuple[int, int]]](list)
@@ -150,8 +154,8 @@ class FaultEnds:
             places.sort()
 
     def first(self, of_main: bool, fault: Event, one: Union[int, str], after: tuple[int, int]) -> list[tuple[int, int]]:
-        """Returns the first later event that ends such faults on a way or host, if any. One without a port ends
-        the faults of each port."""
+        """Returns a list with the moment and place at which the first event after `after` ends a fault on a way or host; an empty
+        list without such an event. An event without a port ends the faults on all ports."""
         found = list[tuple[int, int]]()
         for port in {None, fault.port}:
             places = self.table.get((of_main, fault.ending, one, port), [])
@@ -161,8 +165,8 @@ class FaultEnds:
 
 
 def fault_ends(events: Sequence[TimedEvent]) -> Iterator[tuple[int, int]]:
-    """Pairs each fault's place with that of the event that ends the fault early, for each way or host. Moments with different bases
-    can't be compared, and each such event counts as early."""
+    """For each fault that an event ends early, yields the fault's place and the event's place, for each way or host. Moments that
+    count from different starts can't be compared, so an event that counts from the other start is taken as early."""
     ends = FaultEnds(events)
     for place, (moment, event, _) in enumerate(events):
         for one in event.of if event.ending else ():

@@ -19,12 +19,13 @@ OF_LINK = f"A B [N] {OUTAGE}, or LINK, or a line"
 
 
 def parse(words: str, net: Description) -> Event:
-    """Returns the event of words without a file. Wrong: the words describe no event of the net."""
+    """Returns the event that words outside a file describe, such as the words after `hinge change`. Wrong: the words describe no
+    event for the net."""
     return read_event(Statement(f"'{words}'", 0, f"at {words}"), net)
 
 
 def read_event(statement: Statement, net: Description) -> Event:
-    """Returns the event in a statement, after its moment. Wrong: the words describe no event."""
+    """Reads a statement's words after the moment; returns the event. Wrong: the words describe no event for the net."""
     word = statement.peek()
     if word in ACTS:
         return read_act(statement, net)
@@ -40,12 +41,13 @@ def read_event(statement: Statement, net: Description) -> Event:
 
 
 def read_length(statement: Statement, form: str) -> int:
-    """Returns the length of a fault in ns; without a length, the fault never ends."""
+    """Reads a fault's length; returns the length in ns. If the word is missing, returns the last moment, because the fault
+    doesn't end by itself."""
     return statement.take_time(form) if statement.peek() else LAST_MOMENT
 
 
 def read_act(statement: Statement, net: Description) -> Event:
-    """Returns the event on a host."""
+    """Reads an event on a host, such as `kill HOST 5s`; returns the event. Wrong: the words describe no such event."""
     word = statement.peek()
     typed = bare(statement.rest)
     skew = ""
@@ -64,7 +66,9 @@ def read_act(statement: Statement, net: Description) -> Event:
 
 
 def refuse_act(statement: Statement, net: Description, word: str, host: str, ends: bool) -> None:
-    """Wrong: the host can't be killed, stopped or begun again, or a fault that ends can't end."""
+    """Checks that a host can have a fault or a restart. `begins_again` tells whether the host's command starts again: at the end
+    of a fault, or for a restart. Wrong: the host runs the main command, has no command that could start again, or has no disk
+    for a crash."""
     if host == net.main:
         raise statement.wrong(host, "it has the main command, whose end is the end")
     if ends and "restart" in (word, ENDS.get(word)) and not net.hosts[host].command:
@@ -74,12 +78,12 @@ def refuse_act(statement: Statement, net: Description, word: str, host: str, end
 
 
 def is_word(statement: Statement, words: Container[str], net: Description) -> bool:
-    """Returns whether these words, but no host, include the next word."""
+    """Returns whether the next word is one of these words, and isn't a host's name."""
     return statement.peek() in words and statement.peek() not in net.hosts
 
 
 def read_cut(statement: Statement, net: Description) -> Event:
-    """Returns the cut or the heal of a statement."""
+    """Reads a cut or a heal, such as `cut A from B up 5s`; returns the event. Wrong: the words describe no such event."""
     word, typed = statement.peek(), bare(statement.rest)
     form = f"at TIME {WORDS[word].form}"
     statement.take(form)

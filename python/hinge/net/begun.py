@@ -1,4 +1,4 @@
-"""The command `hinge net` after its command line is parsed."""
+"""The command `hinge net`, from the options on."""
 
 from __future__ import annotations
 
@@ -38,7 +38,8 @@ from hinge.simulated import start
 
 
 def with_files(options: NetOptions) -> NetOptions:
-    """Returns the options with transcript and summary in a folder for both, if it is writable."""
+    """Creates the folders for --transcripts and --logs, copies the net's file into the first, and checks all output files.
+    Returns the options with paths for the history and the summary."""
     refuse_own_input("--transcripts", options.transcripts, [options.file])
     for path in (options.transcripts, options.logs):
         if path:
@@ -55,8 +56,8 @@ def with_files(options: NetOptions) -> NetOptions:
 
 
 def refuse_idle_lines(net_plan: NetPlan, is_open: bool) -> None:
-    """Refuses idle lines. Wrong: other lines leave a line of the file without effect. Unobeyed: a line repeats an option. If the
-    net is open to others, a later change may need the line."""
+    """Checks for lines without effect. `is_open` tells that users may start commands in the net. Wrong: two lines configure the
+    same pipe or queue at the same moment, or no command waits for a port. Unobeyed: a line contains an option twice."""
     before = dict[bool, set[tuple[int, str, int]]]()
     for of_main, moment, line, statement in net_plan.places:
         if statement.word == "at":
@@ -69,7 +70,7 @@ def refuse_idle_lines(net_plan: NetPlan, is_open: bool) -> None:
 
 
 def show_net(net: Description) -> None:
-    """Hosts with their addresses and links."""
+    """Prints the hosts with their addresses and commands, and then each pipe with its way's words."""
     ends = NetEnds(net)
     for name, host in net.hosts.items():
         show(
@@ -85,8 +86,8 @@ def show_net(net: Description) -> None:
 
 
 def refuse_gap(net: Description, options: NetOptions) -> None:
-    """Checks routers. Wrong: a host that forwards packets has no command. With --control it may get one later, so the net only
-    warns."""
+    """Checks for a host that was probably meant as a router: a host without a command between hosts that have no route to each
+    other. Wrong: there is such a host. With --control, the host may get a command later, so this call only prints a warning."""
     hole = gap(net)
     if hole is None or hole.between == options.shell:
         return
@@ -98,7 +99,8 @@ def refuse_gap(net: Description, options: NetOptions) -> None:
 
 
 def run(arguments: NetOptions) -> None:
-    """Checks the options and runs the net. Wrong: an option, or a word of the net, has no effect here."""
+    """Checks the options, and runs the net; with --dry-run, shows the net instead. Wrong: an option, or a word of the net, has no
+    effect here."""
     refuse_gap(read_description(arguments.file), arguments)
     net = net_of(arguments)
     seed = drawn_seed(arguments.seed)
@@ -122,7 +124,7 @@ def run(arguments: NetOptions) -> None:
 
 
 def begin(options: NetOptions) -> NoReturn:
-    """Runs the command here, on this system's clock."""
+    """Runs the net on this system and its clock, and ends this process with the net's status."""
     mask = signal.pthread_sigmask(signal.SIG_BLOCK, ())
     program()
     order = net_order(options, net_of(options), mask, is_simulated())
@@ -142,13 +144,14 @@ def begin(options: NetOptions) -> NoReturn:
 
 
 def begin_inside() -> NoReturn:
-    """Runs a net with disks in a simulated machine. The launcher's word contains the options."""
+    """Runs a net inside a simulated machine. The first argument of this process contains the options in JSON."""
     NAME[0] = "hinge net"
     run_command(lambda: begin(NetOptions(**json.loads(sys.argv[1]))))
 
 
 def look_at(pipe: int) -> None:
-    """Makes the system send SIGIO to this process when a pipe can be read. The process can't start a thread for that any more."""
+    """Makes the system send SIGIO to this process when a pipe can be read. A thread can't wait for the pipe, because this process
+    can't start threads any more."""
     fcntl.fcntl(pipe, fcntl.F_SETOWN, os.getpid())
     fcntl.fcntl(pipe, fcntl.F_SETFL, fcntl.fcntl(pipe, fcntl.F_GETFL) | os.O_ASYNC)
     if can_be_read(pipe, 0):

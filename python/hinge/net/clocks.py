@@ -17,8 +17,8 @@ IN_REAL_TIME = "hosts have clocks of their own in simulated time alone; add --si
 
 
 def read_skew(statement: Statement) -> str:
-    """Returns the kernel's words for a skew such as `+2s`, `-300ms 100ppm` or `+0s -50.5ppm`: the ns by which a clock is ahead, and the
-    ns that it gains each second from then on. Wrong: the words are no skew."""
+    """Reads a skew such as `+2s`, `-300ms 100ppm` or `+0s -50.5ppm`; returns the skew in the kernel's words: the ns by which the
+    clock is ahead, and the ns that the clock gains in each second from then on. Wrong: the words describe no skew."""
     word = statement.take(SKEW)
     if word[0] not in "+-":
         raise statement.wrong(word, f"how far the clock is ahead, as +2s, or behind, as -2s: {SKEW}")
@@ -43,4 +43,5 @@ def take_clock(number: int) -> None:
 
 
 def set_clock(number: int, skew: str) -> None:
+    """Sets a host's clock to a skew in the kernel's words, if the kernel supports clocks."""
     try_to_write(PLACE, f"{number} {skew}")

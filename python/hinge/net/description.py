@@ -1,4 +1,4 @@
-"""A net from its file: hosts with their commands, links, and scheduled events."""
+"""A net's file: hosts with their commands, links, ports to wait for, and scheduled events."""
 
 from __future__ import annotations
 
@@ -27,6 +27,8 @@ MOST_PORTS = 254  # hosts at switches that are joined, as addresses of IPv4 end 
 
 @dataclass
 class NetHost:
+    """Describes a host, a router or a switch."""
+
     name: str
     forwards: bool = False
     is_switch: bool = False
@@ -36,7 +38,7 @@ class NetHost:
 
 @dataclass(frozen=True)
 class NetLink:
-    """A link, with the words of both ways: from the first end, and back."""
+    """Describes a link: the two ends, and the words for each way (from the first end, and back)."""
 
     ends: tuple[str, str]
     ways: tuple[str, str]
@@ -44,11 +46,12 @@ class NetLink:
     mtu: Optional[int] = None  # of its interfaces
 
     def other(self, name: str) -> str:
+        """Returns the end of the link that isn't this host."""
         return self.ends[name == self.ends[0]]
 
 
 class Port(NamedTuple):
-    """A host's end of a link to a switch."""
+    """Describes the host's end where a link connects a host with a switch. Switches that are joined by links form a segment."""
 
     segment: int  # the first link of the switches that are joined, by its place from 0
     number: int  # of the host's end among those of the segment, from 1
@@ -56,6 +59,8 @@ class Port(NamedTuple):
 
 @dataclass(frozen=True)
 class Wait:
+    """Describes a port at which a host's command has to listen before the main command starts."""
+
     host: str
     port: int
     lasting: float  # s
@@ -64,6 +69,8 @@ class Wait:
 
 @dataclass
 class Description:
+    """Holds everything that a net's file describes."""
+
     hosts: dict[str, NetHost] = field(default_factory=dict)
     links: list[NetLink] = field(default_factory=list)
     waits: list[Wait] = field(default_factory=list)
@@ -74,9 +81,9 @@ class Description:
     links_of: dict[str, dict[str, list[int]]] = field(default_factory=dict)  # the numbers of each host's links, by the other end
 
     def between(self, statement: Statement, form: str) -> tuple[int, bool]:
-        """Reads a link from the next words, `A B`, or `A B N` for the N-th link between both.
+        """Reads a link from the next words, `A B`, or `A B N` for the N-th link between both hosts.
 
-        Returns the link's number, and whether A is the second end.
+        Returns the link's number, and whether A is the second end. Wrong: there is no such link.
         """
         one, two = self.host(statement, form), self.host(statement, form)
         result = self.links_of.get(one, {}).get(two, [])
@@ -88,14 +95,15 @@ class Description:
         return result[place - 1], self.links[result[place - 1]].ends[0] != one
 
     def ways_between(self, host: str, others: tuple[str, ...], side: str = "") -> tuple[int, ...]:
-        """Returns the ways of a host's links, or only its links to some hosts: both, `up` (from the host) or `down` (to the
-        host)."""
+        """Returns the way numbers for a host's links, or only for the links to some hosts. `side` restricts them to the ways from
+        the host (`up`) or to the host (`down`)."""
         table = self.links_of.get(host, {})
         numbers = sorted(number for other in {*others} or table for number in table.get(other, ()))
         ways = (2 * number + way for number in numbers for way in (0, 1))
         return tuple(way for way in ways if side != ("down" if self.links[way // 2].ends[way % 2] == host else "up"))
 
     def host(self, statement: Statement, form: str) -> str:
+        """Reads and returns the name of a host or switch. Wrong: the net has no such host; the message suggests what to write."""
         name = statement.take(form)
         if name not in self.hosts:
             may_be = statement.number > 0 and statement.word != "at" and NAME.fullmatch(name) and name not in KEYWORDS
@@ -104,16 +112,18 @@ class Description:
         return name
 
     def is_room(self, name: str) -> bool:
-        """Returns whether programs can run on the host. Switches run no programs."""
+        """Returns whether programs can run on the host with this name. Switches run no programs."""
         return name in self.hosts and not self.hosts[name].is_switch
 
     def room(self, statement: Statement, form: str) -> str:
+        """Reads and returns the name of a host on which programs can run. Wrong: there is no such host."""
         name = self.host(statement, form)
         if not self.is_room(name):
             raise statement.wrong(name, "a switch, on which nothing runs")
         return name
 
     def declare(self, statement: Statement, form: str, forwards: bool = False) -> NetHost:
+        """Reads the name of a new host, and adds the host; returns the host. Wrong: the name is taken, or can't be a name."""
         name = statement.take(form)
         if name in TAKEN:
             raise statement.wrong(name, "a word with a meaning of its own; take another name")
@@ -125,6 +135,7 @@ class Description:
         return self.hosts[name]
 
     def main_of(self, statement: Statement) -> None:
+        """Reads a line `main`, which names the main command's host and may contain the command."""
         if self.main is not None:
             raise statement.wrong("main", f"a second one; the first is of {self.main}")
         if statement.peek() in self.hosts:
@@ -137,6 +148,7 @@ class Description:
         self.main = host.name
 
     def add_link(self, statement: Statement, one: str, two: str, words: str) -> None:
+        """Adds a link between two hosts, described by words."""
         if one == two:
             raise statement.wrong(two, "a link has two ends")
         if len(self.links) == MOST_LINKS:
@@ -150,6 +162,7 @@ class Description:
         self.add_link(statement, one, two, statement.rest)
 
     def switch(self, statement: Statement) -> None:
+        """Reads a line `switch`, which adds a link from each named host to the switch."""
         name, members = statement.take(SWITCH), []
         while statement.peek() in self.hosts:
             members.append(statement.take(SWITCH))
@@ -160,6 +173,7 @@ class Description:
             self.add_link(statement, member, name, statement.rest)
 
     def mtu(self, statement: Statement) -> None:
+        """Reads a line `mtu`, which sets the MTU at both ends of a link."""
         words = statement.rest.split()
         if len(words) == 3:  # without the place among several links
             statement.rest = " ".join([*words[:2], "1", words[2]])
@@ -180,6 +194,7 @@ class Description:
         self.has_routes = False
 
     def wait(self, statement: Statement) -> None:
+        """Reads a line `wait`, which names a port to wait for."""
         host = self.room(statement, WAIT)
         word = statement.take(WAIT)
         port = statement.take(WAIT)
@@ -208,7 +223,7 @@ class Description:
         return names
 
     def ways_into_switches(self) -> dict[str, list[int]]:
-        """Returns the ways that end at each switch, counted from 0."""
+        """Returns the numbers (from 0) of the ways that end at each switch."""
         table: dict[str, list[int]] = {name: [] for name, host in self.hosts.items() if host.is_switch}
         for number, link in enumerate(self.links):
             for end in (0, 1):
@@ -217,7 +232,8 @@ class Description:
         return table
 
     def joined_switches(self) -> dict[str, set[str]]:
-        """Returns the switches in each switch's segment. Wrong: they form a loop, in which a broadcast would circulate forever."""
+        """Returns each switch with the set of all switches in its segment. Wrong: switches form a loop, in which a broadcast
+        would circulate forever."""
         union = {name: {name} for name, host in self.hosts.items() if host.is_switch}
         for link in self.links:
             one, two = link.ends
@@ -229,7 +245,8 @@ class Description:
         return union
 
     def ports(self) -> dict[tuple[int, str], Port]:
-        """Returns the links' ends at switches, by link (from 0) and host."""
+        """Returns all hosts' ports at switches, by the link's number (from 0) and the host's name. Wrong: switches form a loop,
+        or a segment has too many hosts."""
         union = self.joined_switches()
         table = dict[tuple[int, str], Port]()
         last = dict[str, Port]()
@@ -269,8 +286,8 @@ LINE_WORDS = sorted({word for kinds in FOLLOWS for word in kinds})
 
 
 def read_description(path: str) -> Description:
-    """Reads a net from a file, in which a line may use names that a later line defines. Wrong: a line is wrong, or there is no
-    link."""
+    """Reads a net's file, in which a line may use names that a later line defines; returns the description. Wrong: a line is
+    wrong, or there is no link."""
     net, lines = Description(), list[Statement]()
     for statement in statements(path):
         if statement.word not in LINE_WORDS:

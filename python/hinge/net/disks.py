@@ -25,12 +25,14 @@ IN_REAL_TIME = "hosts have disks that a crash can empty in simulated time alone;
 
 
 class Disk(NamedTuple):
+    """Describes a host's disk."""
+
     path: str  # where its host finds it
     size: int  # MiB
 
 
 def read_disk(statement: Statement) -> Disk:
-    """Returns the disk described by `/data`, or by `data 256M` relative to the folder of the net's file."""
+    """Reads a disk: `/data`, or `data 256M` relative to the net file's folder; returns the disk. Wrong: the size is wrong."""
     path = os.path.abspath(os.path.join(os.path.dirname(statement.path), statement.take(DISK)))
     word = statement.take(DISK) if statement.peek() else f"{USUAL}M"
     match = re.fullmatch(r"(\d{1,5})([MG])", word, re.ASCII)
@@ -42,7 +44,8 @@ def read_disk(statement: Statement) -> Disk:
 
 
 def refuse_disks(path: str, hosts: Iterable[NetHost], simulated: bool) -> None:
-    """Wrong: the net has disks, but runs in real time. Missing: the program that creates disks isn't installed."""
+    """Checks that disks are possible here. Wrong: the net runs in real time. Missing: the program that creates disks isn't
+    installed."""
     if any(host.disks for host in hosts):
         if not simulated:
             raise Wrong(f"{path}: disk: {IN_REAL_TIME}")
@@ -56,7 +59,7 @@ def opened_mounts() -> list[int]:
 
 
 def enter_mounts(mounts: list[int]) -> None:
-    """Moves this process into a mount namespace, and back into its working directory."""
+    """Moves this process into a mount namespace, and there into the folder with the path of its working directory."""
     folder, (root, namespace) = os.getcwd(), mounts
     join(namespace, NEWNS)
     os.fchdir(root)
@@ -65,9 +68,10 @@ def enter_mounts(mounts: list[int]) -> None:
 
 
 class Disks:
-    """The disks of all hosts. Create it in the first process, before any thread starts.
+    """Holds the disks of all hosts. Create it in the first process, before any thread starts.
 
-    A host with disks uses a mount namespace that outlives the host's processes, so a process that ends writes nothing to the disk.
+    A host with disks uses a mount namespace that outlives the host's processes, so a process that ends writes nothing to the
+    disk.
     """
 
     def __init__(self, hosts: Iterable[NetHost]) -> None:
@@ -82,12 +86,14 @@ class Disks:
             enter_mounts(own)
 
     def ask(self, does: str, host: str) -> None:
-        """Makes the first process create a host's disks, or drop their unsynced writes. Missing: it failed."""
+        """Makes the simulated machine's first process create a host's disks (`make`), or drop their unsynced writes (`lose`).
+        Missing: the request failed."""
         for number, disk in self.of[host]:
             answer = answer_of(PLACE, f"{does} {number} {disk.size} {self.mounts[host][1]} {disk.path}")
             if answer != "done":
                 raise Missing(f"disk {host} {disk.path}: {answer}")
 
     def enter(self, host: str) -> None:
+        """Moves this process into a host's mount namespace, if the host has disks."""
         if host in self.mounts:
             enter_mounts(self.mounts[host])

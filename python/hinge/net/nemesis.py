@@ -1,4 +1,5 @@
-"""A nemesis: faults whose hosts, moments and lengths a seed draws, each an event that an `at` line could request instead."""
+"""The parser of a nemesis: a line that requests random faults. A seed draws the faults' hosts, moments and lengths; each fault is
+an event that an `at` line could request instead."""
 
 from __future__ import annotations
 
@@ -24,14 +25,14 @@ MS = 10**6  # ns
 
 
 class TimeSpan(NamedTuple):
-    """The least and greatest time to draw, in ns."""
+    """Describes a range of times in ns."""
 
     least: int
     most: int
 
 
 def read_span(text: str) -> TimeSpan:
-    """Reads `5s`, or a range such as `5s..20s`. Wrong: the span starts after its end."""
+    """Reads a time such as `5s`, or a range such as `5s..20s`; returns the range. Wrong: the range starts after its end."""
     least, dots, most = text.partition(SPAN)
     span = TimeSpan(duration(least), duration(most if dots else least))
     if span.least > span.most:
@@ -40,7 +41,8 @@ def read_span(text: str) -> TimeSpan:
 
 
 class Draw:
-    """The random choices for one nemesis."""
+    """Makes the random choices for one nemesis. `place` distinguishes a net's nemeses; `budget` limits how many choices are
+    possible."""
 
     def __init__(self, seed: int, place: int, budget: Budget) -> None:
         self.seed = seed
@@ -49,21 +51,24 @@ class Draw:
         self.budget = budget
 
     def below(self, limit: int) -> int:
+        """Draws a random number from 0 to below a limit."""
         self.count += 1
         self.budget.spend(1)
         return word(self.seed, self.count, self.stream) % limit
 
     def some(self, names: list[str], count: int) -> list[str]:
-        """Chooses `count` names; returns them in their original order."""
+        """Chooses `count` of the names; returns them in their original order."""
         choice = set(self.shuffled(names)[:count])
         return [name for name in names if name in choice]
 
     def shuffled(self, names: list[str]) -> list[str]:
+        """Returns the names in a random order."""
         rest = list(names)
         return [rest.pop(self.below(len(rest))) for _ in names]
 
     def time(self, span: TimeSpan) -> int:
-        """Draws a time, in whole milliseconds after the least time if the range allows several."""
+        """Draws a random time from a range: in whole milliseconds after the least time, or in whole ns if the range is shorter
+        than 1 ms."""
         length = span.most - span.least
         step = MS if length >= MS else 1
         return span.least + (step * self.below(length // step + 1) if length else 0)
@@ -75,6 +80,8 @@ Kind = Callable[[Description, list[str], Draw], list[RandomFault]]
 
 @dataclass(frozen=True)
 class Nemesis:
+    """Describes the random faults that a line `nemesis` requests."""
+
     kind: str
     every: TimeSpan
     lasting: TimeSpan
@@ -84,20 +91,24 @@ class Nemesis:
 
 
 def linked(net: Description, name: str, others: dict[str, int]) -> list[str]:
-    """Returns those hosts among the others that share a link with the host, by their places."""
+    """Returns the hosts that share a link with a host. `others` contains the possible hosts, and a number for each, by which the
+    result is sorted."""
     return sorted((other for other in net.links_of.get(name, ()) if other in others), key=others.__getitem__)
 
 
 def placed_hosts(hosts: list[str]) -> dict[str, int]:
+    """Returns the hosts with their places in the list, from 0."""
     return {name: place for place, name in enumerate(hosts)}
 
 
 def cut(net: Description, one: str, *others: str) -> Cut:
+    """Returns a cut that affects a host's links, or only the links to other hosts."""
     return Cut(net.ways_between(one, others), " ".join(["cut", one, *(["from"] if others else []), *others]))
 
 
 def cuts(net: Description, are_parted: Callable[[str, str], bool], ones: list[str], hosts: list[str]) -> list[RandomFault]:
-    """Returns the cuts between hosts and the hosts on the other side, each link once."""
+    """Returns the cuts that separate hosts: each link from a host in `ones` to another host is cut once, if `are_parted` is true
+    for both hosts."""
     faults, rest = list[RandomFault](), placed_hosts(hosts)
     for one in ones:
         del rest[one]
@@ -108,24 +119,26 @@ def cuts(net: Description, are_parted: Callable[[str, str], bool], ones: list[st
 
 
 def halves(net: Description, hosts: list[str], draw: Draw) -> list[RandomFault]:
+    """Separates half the hosts, chosen at random, from the other half."""
     ones = draw.some(hosts, len(hosts) // 2)
     own = {*ones}
     return cuts(net, lambda _, other: other not in own, ones, hosts)
 
 
 def one_apart(net: Description, hosts: list[str], draw: Draw) -> list[RandomFault]:
+    """Separates a random host from the other hosts."""
     return cuts(net, lambda *_: True, draw.some(hosts, 1), hosts)
 
 
 def ring(net: Description, hosts: list[str], draw: Draw) -> list[RandomFault]:
-    """Arranges the hosts in a random ring, in which each reaches only its two neighbours."""
+    """Arranges the hosts in a random ring, in which each host reaches only its two neighbours."""
     order = draw.shuffled(hosts)
     near = {one: {order[at - 1], order[(at + 1) % len(order)], one} for at, one in enumerate(order)}
     return cuts(net, lambda one, other: other not in near[one], hosts, hosts)
 
 
 def majorities(net: Description, hosts: list[str], draw: Draw) -> list[RandomFault]:
-    """Cuts links in random order while each host still reaches a majority, counting itself."""
+    """Cuts links in random order as long as each host still reaches a majority, counting itself."""
     table: dict[str, set[str]] = {name: set() for name in hosts}
     spare = len(hosts) - (len(hosts) // 2 + 1)
     places = placed_hosts(hosts)
@@ -138,10 +151,13 @@ def majorities(net: Description, hosts: list[str], draw: Draw) -> list[RandomFau
 
 
 def isolated(net: Description, hosts: list[str], draw: Draw) -> list[RandomFault]:
+    """Cuts a random host's links."""
     return [cut(net, *draw.some(hosts, 1))]
 
 
 def of_one(act: str) -> Kind:
+    """Returns a function that draws an act on a random host."""
+
     def drawn(net: Description, hosts: list[str], draw: Draw) -> list[RandomFault]:
         (host,) = draw.some(hosts, 1)
         return [HostAct((host,), f"{act} {host}", word=act)]
@@ -162,7 +178,9 @@ LEAST = {"partition-halves": 2, "partition-one": 2, "partition-ring": 4, "partit
 
 
 def named_hosts(net: Description, statement: Statement, kind: str) -> list[str]:
-    """Returns the hosts after `of`, or by default all hosts except routers and the main command's host."""
+    """Reads the hosts that a nemesis may disturb: the hosts after `of`, or by default all hosts that can have its faults, except
+    routers and the main command's host. Returns their names. Wrong: a host can't have such a fault, or there are too few
+    hosts."""
     if statement.peek() == "of":
         statement.take(NEMESIS)
         items = []
@@ -195,7 +213,8 @@ def named_hosts(net: Description, statement: Statement, kind: str) -> list[str]:
 
 
 def span_behind(statement: Statement, key: str, otherwise: Optional[TimeSpan] = None) -> TimeSpan:
-    """Returns the times after a key word."""
+    """Reads the times after a key word; returns the range, or `otherwise` if the key word is missing. Wrong: the key word is
+    missing without `otherwise`, or its times are wrong."""
     if statement.peek() != key:
         if otherwise is not None:
             return otherwise
@@ -206,6 +225,7 @@ def span_behind(statement: Statement, key: str, otherwise: Optional[TimeSpan] = 
 
 
 def read_nemesis(net: Description, statement: Statement) -> Nemesis:
+    """Reads a line `nemesis`; returns the nemesis. Wrong: a word is wrong, or the times allow no fault or too many faults."""
     kind = statement.take(NEMESIS)
     if kind not in KINDS:
         raise statement.unknown(kind, KINDS, "not a nemesis", f"write one of {', '.join(KINDS)}")
@@ -224,7 +244,7 @@ def read_nemesis(net: Description, statement: Statement) -> Nemesis:
 
 
 def drawn_events(net: Description, nemesis: Nemesis, draw: Draw) -> Iterator[tuple[int, Event]]:
-    """Draws a nemesis's events; yields them with their moments in ns."""
+    """Draws a nemesis's events; yields each with its moment in ns."""
     start = draw.time(nemesis.first)
     while start <= nemesis.until:
         lasting = draw.time(nemesis.lasting)

@@ -1,4 +1,4 @@
-"""The control socket's requests for a net: link changes, acts on hosts, `hinge exec`, and status."""
+"""The requests at a net's control socket: changes to links, acts on hosts, `hinge exec`, and the net's status."""
 
 from __future__ import annotations
 
@@ -18,7 +18,7 @@ if TYPE_CHECKING:
 
 
 def opened_control(net: NetInside) -> Optional[Control]:
-    """Opens the socket from --control. A change uses the words of an `at` line, without the moment."""
+    """Returns the control socket from --control, opened; None without the option."""
 
     def obey(words: str, moment: int) -> Effect:
         plan = net.order.made

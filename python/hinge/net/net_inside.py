@@ -1,4 +1,4 @@
-"""The first process in a net: it creates the rooms, starts the links and the hosts' commands, and reports the result."""
+"""A net's first process, which creates the rooms, starts the links and the hosts' commands, and reports the result."""
 
 from __future__ import annotations
 
@@ -48,6 +48,8 @@ NO_PRIORITY = "the links don't come before other programs, as the system doesn't
 
 
 class NetInside:
+    """Runs a net in its first process."""
+
     def __init__(self, order: NetOrder, own_users: bool, outside: Optional[Outside]) -> None:
         self.order = order
         self.options = order.options
@@ -76,13 +78,14 @@ class NetInside:
         self.main_moment: Optional[int] = None  # ns, of the links
 
     def started_links(self) -> Link:
-        """Starts and returns the process that hosts all links, which acts on hosts don't affect."""
+        """Starts and returns the process that emulates all links. Acts on hosts don't affect this process."""
         enter(self.network)
         descriptors = [*self.rooms.descriptors(), *chain(*self.descriptors.values())]
         more = descriptors, self.links_plan.text(), self.order.mask, opened_control(self), self.lines
         return Link(self.processes, self.page, ["tun", *map(str, self.rooms.interfaces)], *more)
 
     def look_at_waits(self, _: float) -> None:
+        """Notes for how long the processes of running commands have waited for a processor."""
         running = {name: process for name, process in self.started.items() if process not in self.processes.ended}
         self.waits.look(self.cgroups.made, running)
 
@@ -91,8 +94,8 @@ class NetInside:
         return self.linked[host].has_nothing() if host in self.linked else not self.on_host(host).all()
 
     def act(self, act: PlannedAct) -> Optional[Callable[[], None]]:
-        """Carries out an act on a host's processes or clock, except the links' part. Returns the remaining work, if any, which may
-        wait. Wrong: hosts know no such act."""
+        """Carries out an act on a host's processes, disks or clock, except the part of the links. Returns a function that
+        completes the act later, or None if nothing remains. Wrong: hosts know no such act."""
         if self.is_of_links(act):
             return partial(self.see_gone, act.host) if act.word == "kill" else None
         clock = clock_number(act.host, self.net.hosts)
@@ -109,8 +112,9 @@ class NetInside:
         return self.begun_again(act.host) if act.word == "restart" else None
 
     def begun_again(self, host: str) -> Callable[[], None]:
-        """Starts a host's command again. Returns the wait until the command is on the host, where kills find it. A stopped host's cgroup
-        freezes a command that enters."""
+        """Starts a host's command again. Returns a function that waits until the command is on the host, where a kill finds the
+        command. The cgroup of a stopped host freezes a command that enters, so the wait then ends when the command is in the
+        cgroup."""
         there, entry = os.pipe()
         self.begin(host, entry)
         os.close(entry)
@@ -125,7 +129,8 @@ class NetInside:
         return see_there
 
     def see_gone(self, host: str) -> None:
-        """Waits for the end of a killed host's processes. A late restart may follow the kill: this call then kills the new command."""
+        """Waits until all processes of a killed host have ended. If a late restart came after the kill's moment, kills the new
+        command too."""
         before, kill = [0, *(one.moment for one in self.acts.done if one.act.host == host)][-2:]
         if before > kill:
             self.linked[host].empty()
@@ -133,19 +138,23 @@ class NetInside:
         self.processes.reap()
 
     def on_host(self, name: str) -> HostProcesses:
+        """Returns the object that signals the processes on a host without a cgroup."""
         is_hidden = name in self.started and not sees_own_processes()
         return GroupProcesses(self.started[name]) if is_hidden else HostProcesses(self.rooms.network[name])
 
     def variables(self, name: str) -> dict[str, str]:
+        """Returns the environment variables for commands on a host."""
         return {"HINGE_HOST": name, "HINGE_NET": self.order.folder}
 
     def enter(self, name: str) -> None:
+        """Moves this process into a host: sets the room, the clock and the environment variables."""
         self.rooms.enter(name)
         take_clock(clock_number(name, self.net.hosts))
         os.environ.update(self.variables(name))
 
     def begin(self, name: str, entry: Optional[int] = None) -> None:
-        """Starts a host's command. Each command except the main one gets a new process group. It closes `entry` once it is there."""
+        """Starts a host's command; each command except the main command gets a new process group. The new process closes the
+        descriptor `entry` when the process is on the host."""
         is_main, is_first, cgroup = name == self.net.main, name not in self.started, self.cgroups.of(name)
         is_stopped = self.acts.goes_on(name, "cont")
 
@@ -173,8 +182,8 @@ class NetInside:
             os.waitid(os.P_PID, self.started[name], os.WSTOPPED | os.WEXITED | os.WNOWAIT)
 
     def begin_commands(self) -> Optional[int]:
-        """Starts all commands except the main one, and waits until each has begun; returns an earlier signal, if any. Until then
-        they enter their cgroups one by one, and a due act would wait for all these entries."""
+        """Starts all commands except the main command, and waits until each has begun; returns the signal that ends the wait
+        early, if any. The commands enter their cgroups one by one, and a due act would wait for all these entries."""
         read_end, write_end = os.pipe()  # which each holds until it begins
         os.set_blocking(read_end, False)
         for name, host in self.net.hosts.items():
@@ -193,7 +202,8 @@ class NetInside:
         return came
 
     def waited(self) -> Optional[int]:
-        """Waits for the net's ports until a required port is missing. Returns an earlier signal, if any."""
+        """Waits for the net's ports in turn, until a required port is missing. Returns the signal that ends the wait early, if
+        any."""
         for wait in self.net.waits:
             enter(self.rooms.network[wait.host])
 
@@ -209,6 +219,7 @@ class NetInside:
         return None
 
     def note_silent(self, wait: Wait) -> None:
+        """Notes that nothing listens at a port. If the port is optional, says so, and the net goes on."""
         text = silent(self.net, wait, self.processes.ended.get(self.started.get(wait.host, NOBODY)))
         if wait.is_optional:
             self.silent.append(text)
@@ -222,7 +233,7 @@ class NetInside:
         return self.started.get(host) in self.processes.ended and not is_awaited
 
     def begin_main(self) -> Optional[int]:
-        """Starts the main command, if any; returns its process."""
+        """Starts the main command, or --shell's shell; returns its process, or None if the net has neither."""
         if self.options.shell or self.net.main:
             self.main_moment = self.lines.ask("main").moment
             self.acts.begin(True, 0)
@@ -233,7 +244,8 @@ class NetInside:
         return self.started.get(self.net.main or "")
 
     def lasted(self, link: Link) -> int:
-        """Runs until the main command ends, or all commands if there is no main one, or a signal arrives; returns the status."""
+        """Starts the commands, and waits until the main command ends (all commands, if there is no main command) or a signal
+        arrives; returns the status."""
         came = self.begin_commands() or self.waited()
         if came:
             return SIGNALLED + came
@@ -262,11 +274,12 @@ class NetInside:
         return rest or [NOBODY] * (main is None and self.acts.awaited())
 
     def was_killed(self, name: str) -> bool:
-        """Returns whether an act ended a host's command, which hadn't ended long before."""
+        """Returns whether an act ended a host's command. A command that ended long before the act wasn't killed."""
         ended = self.processes.ended_at.get(self.started.get(name, NOBODY), math.inf)
         return self.acts.goes_on(name, "restart") and ended > self.acts.killed_at.get(name, 0.0) - BEFORE
 
     def run(self) -> int:
+        """Runs the net and reports the result; returns the status."""
         link = self.started_links()
         if (fault := link.failed()) is not None:
             return fault
@@ -286,7 +299,7 @@ class NetInside:
         return report_net(self.order, ran, None if is_simulated() else self.waits)
 
     def ended(self) -> dict[str, Ended]:
-        """Ends the hosts' commands and returns their endings. Stopped processes continue first, so that they can end."""
+        """Ends the hosts' commands; returns how each ended. Stopped processes continue first, so that they can end."""
         if not is_simulated():
             self.look_at_waits(0.0)
         self.acts.pending.clear()

@@ -1,4 +1,4 @@
-"""The plan for the process that hosts a net's links. The link with number L, from 0, uses pipes 2L+1 and 2L+2."""
+"""A net's plan: the text that describes the emulation to the links' process. Link L, from 0, uses pipes 2L+1 and 2L+2."""
 
 from __future__ import annotations
 
@@ -34,7 +34,7 @@ TRACE_LASTING = 3600 * 10**9  # ns
 
 @contextmanager
 def with_place(place: str) -> Iterator[None]:
-    """Prefixes the message of a fault with the line's place."""
+    """Replaces the option's name in an error message by the line's place in the net's file. Wrong: the line is wrong."""
     with placed(place):
         try:
             with untrusted(place):
@@ -44,10 +44,10 @@ def with_place(place: str) -> Iterator[None]:
 
 
 class NetPlan:
-    """The plan of a net, with all lines checked."""
+    """Builds a net's plan from the description, and checks all lines."""
 
     def __init__(self, net: Description, longest: int, seed: int = 0) -> None:
-        """`longest` is the length of the longest packet. `seed` determines the faults of each nemesis."""
+        """`longest` is the longest packet's length in bytes. `seed` determines each nemesis's faults."""
         self.net, self.plan = net, Plan(longest, len(net.links))
         self.queues: dict[tuple[int, int], int] = {}
         self.places: list[tuple[bool, int, str, Statement]] = []  # base, moment, line, and where it was said
@@ -73,24 +73,27 @@ class NetPlan:
 
     @property
     def has_main(self) -> bool:
+        """Returns whether the net has a main command or a shell in its place."""
         return self.net.main is not None or self.net.has_shell
 
     def configure(self, statement: Statement, line: str) -> None:
+        """Adds a configuration line for the links' start, which a statement of the net's file requests."""
         self.places.append((False, 0, line, statement))
         self.plan.link(line)
 
     @property
     def drawn(self) -> list[str]:
-        """Returns the lines `at` that the seed draws."""
+        """Returns the `at` lines that the seed drew."""
         return [str(one) for one in self.events if one.is_drawn]
 
     def unruled(self) -> list[str]:
-        """Returns the lines of queues to which no rule sends a packet."""
+        """Returns the lines that configure queues to which no rule sends packets."""
         lines = {target_of(line): statement.text for _, _, line, statement in self.places}
         return [f"`{lines[one]}`" for one in self.plan.unruled()]
 
     def own(self, link: int, is_back: bool, line: str) -> str:
-        """Returns a link's line with the net's numbers; its pipe 1 leads from the first host."""
+        """Converts a link's configuration line to the net's numbers for pipes and queues. The line's pipe 1 leads from the host
+        that is named first. Wrong: the line names a pipe other than 1 and 2."""
 
         def pipe(own: int) -> int:
             if own not in (1, 2):
@@ -100,15 +103,18 @@ class NetPlan:
         return renumbered(line, pipe, lambda own: self.queues.setdefault((link, own), len(self.queues) + 1))
 
     def line(self, statement: Statement) -> None:
+        """Reads a line `line`: a configuration line for a link."""
         number, is_back = self.net.between(statement, LINE)
         self.configure(statement, self.own(number, is_back, statement.rest))
 
     def loss(self, statement: Statement) -> None:
+        """Reads a line `loss`: a loss model for a link."""
         number, is_back = self.net.between(statement, LOSS)
         first, colon, rest = statement.rest.partition(":")
         self.plan.loss(BACK[first] + colon + rest if is_back and first in BACK else statement.rest, number)
 
     def map(self, statement: Statement) -> None:
+        """Reads a line `map`: a rule that sends some packets on a link to a pipe or queue."""
         number, is_back = self.net.between(statement, MAP)
         rest, arrow, right = statement.rest.partition("=>")
         words = [BACK.get(word, word) if is_back else word for word in rest.split()]
@@ -117,7 +123,7 @@ class NetPlan:
             self.plan.rule(f"{rest} {arrow} {target}", number, statement.text)
 
     def addressed(self, words: list[str], kind: int) -> str:
-        """Replaces host names in a rule with addresses: IPv4 if `kind` is 0, IPv6 if 1."""
+        """Replaces host names in a rule with addresses: IPv4 if `kind` is 0, IPv6 if `kind` is 1."""
         names = {name: place for place, name in enumerate(self.net.hosts, 1) if not self.net.hosts[name].is_switch}
         return " ".join(
             own_addresses(names[word])[kind] if before in NETS and word in names else word
@@ -125,20 +131,23 @@ class NetPlan:
         )
 
     def faults(self, statement: Statement) -> None:
+        """Reads a line `faults`: a file with faults for single packets."""
         self.plan.faults(self.file(statement, FAULTS_LINE), self.net.ways(), is_net=True)
 
     def file(self, statement: Statement, form: str) -> str:
-        """Returns the path in a statement's last word."""
+        """Reads a statement's last word; returns the path that the word names, relative to the net file's folder."""
         path = os.path.join(os.path.dirname(statement.path), statement.take(form))
         statement.done(form)
         return path
 
     def trace(self, statement: Statement) -> None:
+        """Reads a line `trace`: a file that the bandwidth of a way follows."""
         number, is_back = self.net.between(statement, TRACE)
         self.plan.trace(2 * number + is_back, self.file(statement, TRACE), None, TRACE_LASTING)
 
     def moment(self, word: str) -> Moment:
-        """Reads a moment. `main+5s` counts from the start of the main command, and `start+5s` from the start of the links.
+        """Returns the moment that a word names. `main+5s` counts from the main command's start, and `start+5s` from the links'
+        start.
 
         A plain `5s` counts from the main command if there is one. Wrong: `main+` without a main command.
         """
@@ -150,20 +159,23 @@ class NetPlan:
         return Moment(self.drawn_time(text), base == "main", f"{base}+")
 
     def drawn_time(self, text: str) -> int:
-        """Returns a time in ns. The seed chooses from a range such as 5s..20s."""
+        """Returns a time in ns. From a range such as 5s..20s, the seed draws a time."""
         return self.moments.time(read_span(text))
 
     def at(self, statement: Statement) -> None:
+        """Reads a line `at`: a moment and an event."""
         word = statement.take(AT)
         self.add(TimedEvent(self.moment(word), read_event(statement, self.net), SPAN in word), statement)
 
     def nemesis(self, statement: Statement) -> None:
+        """Reads a line `nemesis`, and adds the events that the seed draws."""
         read = read_nemesis(self.net, statement)
         statement.done(NEMESIS)
         for moment, event in drawn_events(self.net, read, Draw(self.seed, next(self.nemeses), self.draws)):
             self.add(TimedEvent(Moment(moment, self.has_main, ""), event, True), statement)
 
     def add(self, timed: TimedEvent, statement: Statement) -> None:
+        """Adds an event, which a statement of the net's file requests, to the plan."""
         moment, event, _ = timed
         self.rest.spend(len({of // 2 if isinstance(of, int) else of for of in event.of}))
         self.events.append(timed._replace(event=kept(event)))
@@ -178,14 +190,14 @@ class NetPlan:
             self.places += [(moment.of_main, moment.ns, one.line, statement) for one in new if isinstance(one, Change)]
 
     def happenings(self, event: Event, ns: int, changes: Changes) -> list[Happening]:
-        """Returns the links' actions for an event; `changes` numbers its cuts. Wrong: the links can't carry it out."""
+        """Returns what the links have to do for an event at a moment; `changes` numbers the cuts. Wrong: the links can't do it."""
         if isinstance(event, NewLine):
             self.plan.take(line := self.own(event.ways[0] // 2, event.ways[0] > event.ways[1], event.line))
             return [Change(ns, line)]
         return self.plan.happenings(event, ns, changes)
 
     def acts_of(self, event: HostAct, moment: Moment) -> list[PlannedAct]:
-        """Returns an event's acts: the start, and the end if the event ends by itself."""
+        """Returns the acts for an event on a host: its begin, and its end if the event has a length."""
         fault = next(self.host_faults) if event.ending else 0
         start = PlannedAct(moment, event.word, event.host, fault, event.skew)
         end = moment._replace(ns=moment.ns + event.length)
@@ -195,14 +207,15 @@ class NetPlan:
         ]
 
     def judge_ends(self) -> None:
-        """Wrong: a heal ends no cut that goes on then, or a cont no stop."""
+        """Checks that each heal and cont ends a fault. Wrong: no cut goes on when a heal comes, or no stop when a cont comes."""
         ends = {end for _, end in fault_ends(self.events)}
         for place, (one, statement) in enumerate(zip(self.events, self.lines_at)):
             if place not in ends and (word := WORDS.get(one.event.word)) and word.none:
                 raise Wrong(f"{statement.place}: {one.event.word!r}: {word.none} goes on then")
 
     def judge(self) -> None:
-        """Lets the emulator check all lines in order before anything starts. Unobeyed: it rejects a line."""
+        """Makes the emulator check all configuration lines in order, before anything starts. Unobeyed: the emulator rejects a
+        line."""
         sequence = sorted(sorted(self.places, key=itemgetter(1)), key=itemgetter(0))  # by keys of which none is made
         refuse_long((one.place for *_, one in sequence), lines := [line for _, _, line, _ in sequence])
         for verdict in judged_lines(lines):

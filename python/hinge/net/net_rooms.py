@@ -1,7 +1,7 @@
-"""The rooms of a net's hosts: network namespaces with an interface for each link, names, addresses and routes.
+"""The rooms of a net's hosts. A room is a network namespace with an interface for each link, names, addresses and routes.
 
-A host's name resolves to its address on `lo`, one for each IP version. Each link end has further addresses. A switch has no
-room: its links end in the switch process. The hosts at connected switches share an Ethernet network.
+A host's name resolves to its address on `lo`, one for each IP version. Each link's end gets further addresses. A switch needs no
+room: the links end in the links' process. The hosts at connected switches share an Ethernet network.
 """
 
 from __future__ import annotations
@@ -37,17 +37,19 @@ AT_NO_HOST = -1  # in the place of an interface's descriptor
 
 
 class Addresses(NamedTuple):
+    """Holds an IPv4 and an IPv6 address."""
+
     four: str
     six: str
 
 
 def own_addresses(place: int) -> Addresses:
-    """Returns the main addresses of the host with this place in the file, from 1."""
+    """Returns a host's main addresses, from the host's place in the net's file, from 1."""
     return Addresses(f"10.8.{place >> 8}.{place & 255}", f"fd08::{place:x}")
 
 
 def end_addresses(link: int, end: int) -> Addresses:
-    """Returns the addresses of an end (0 or 1) of a link, with both counted from 0."""
+    """Returns the addresses of a link's end (0 or 1). The link's number counts from 0."""
     place = link + 1
     return Addresses(f"10.{9 + (place >> 8)}.{place & 255}.{end + 1}", f"fd09:{place:x}::{end + 1}")
 
@@ -58,7 +60,8 @@ def mac_of(link: int) -> bytes:
 
 
 def networks(places: list[int]) -> Iterator[tuple[int, int]]:
-    """Yields the networks that contain exactly these places, which ascend: the first place and the bits of the places behind it."""
+    """Yields the networks that together contain exactly these places, which ascend. A network is its first place and the number
+    of bits for the places within it."""
     at = 0
     while at < len(places):
         first, bits = places[at], 0
@@ -70,7 +73,7 @@ def networks(places: list[int]) -> Iterator[tuple[int, int]]:
 
 
 class NetEnds:
-    """The names and addresses of a net's hosts and link ends."""
+    """Provides the names and addresses for a net's hosts and for both ends of each link."""
 
     def __init__(self, net: Description) -> None:
         self.net = net
@@ -85,44 +88,50 @@ class NetEnds:
         return f"{name}.{other}" + (f".{place + 1}" if place > 0 else "")
 
     def interface(self, name: str, link: int) -> str:
+        """Returns the interface name for a link at a host. If the name is too long, returns a name with the link's number, from
+        1."""
         label = "to-" + self.label(name, link).partition(".")[2]
         return label if len(label) <= LONGEST_INTERFACE else f"link{link + 1}"
 
     def place_of_end(self, name: str, link: int) -> tuple[int, int]:
-        """Returns the link or segment of an end, and the end's place there, both counted from 0."""
+        """Returns the number of the link or segment (joined switches) that contains an end, and the end's place there, both from
+        0."""
         if (link, name) in self.ports:
             port = self.ports[link, name]
             return port.segment, port.number - 1
         return link, int(name == self.net.links[link].ends[1])
 
     def at_end(self, name: str, link: int) -> Addresses:
+        """Returns the addresses at a link's end on a host."""
         return end_addresses(*self.place_of_end(name, link))
 
     def link_local(self, name: str, link: int) -> str:
-        """Returns the link-local address of an end."""
+        """Returns the link-local IPv6 address at a link's end."""
         return f"fe80::{self.place_of_end(name, link)[1] + 1:x}"
 
     def gateways(self, to: str, hop: Hop) -> tuple[Optional[str], Optional[str]]:
-        """Returns the next router's IPv4 and IPv6 addresses if the route begins at a switch."""
+        """Returns the IPv4 and IPv6 addresses of the next router for a route to the host `to`, if the route begins at a switch;
+        otherwise None for both."""
         if hop.host == to or (hop.host_link, hop.host) not in self.ports:
             return None, None
         return self.at_end(hop.host, hop.host_link).four, self.link_local(hop.host, hop.host_link)
 
     def all_of(self, name: str) -> list[str]:
+        """Returns a host's addresses: first the main addresses, then the addresses at the links' ends."""
         return [*self.own[name], *(text for link, _ in self.links[name] for text in self.at_end(name, link))]
 
     def names(self) -> str:
-        """Returns the IPv4 lines for /etc/hosts; IPv6 addresses get separate names."""
+        """Returns the lines for /etc/hosts with IPv4 addresses. IPv6 addresses get separate names, such as ip6-a."""
         lines = [f"{addresses.four} {name}\n{addresses.six} ip6-{name}\n" for name, addresses in self.own.items()]
         return "".join([*lines, *(f"{at.four} {label}\n" for at, label in self.labels())])
 
     def names_of_six(self) -> str:
-        """Returns the lines for /etc/hosts that add IPv6 addresses to the plain names."""
+        """Returns further lines for /etc/hosts, which give the plain names IPv6 addresses too."""
         lines = [f"{addresses.six} {name}\n" for name, addresses in self.own.items()]
         return "".join([*lines, *(f"{at.six} {label}\n" for at, label in self.labels())])
 
     def drops(self, by_host: dict[str, dict[str, int]]) -> list[int]:
-        """Returns the system's drops before the links, by way, from its drops by host and interface."""
+        """Returns how many packets the system dropped before each way, from its drops by host and interface."""
         return [
             by_host[name].get(self.interface(name, number), 0) if name in by_host else 0
             for number, link in enumerate(self.net.links)
@@ -130,14 +139,14 @@ class NetEnds:
         ]
 
     def labels(self) -> Iterator[tuple[Addresses, str]]:
-        """Yields the addresses and names of all link ends."""
+        """Yields the addresses and the name at each link's end on a host."""
         for name in self.own:
             for link, _ in self.links[name]:
                 yield self.at_end(name, link), self.label(name, link)
 
 
 def in_ipv6(do: Callable[[], None]) -> None:
-    """Calls `do`, and ignores a failure if the system lacks IPv6."""
+    """Calls `do`, and ignores that it fails on a system without IPv6."""
     try:
         do()
     except OSError:
@@ -145,7 +154,7 @@ def in_ipv6(do: Callable[[], None]) -> None:
 
 
 class NetRooms:
-    """The rooms of all hosts. Create them in the first process."""
+    """Creates all hosts' rooms. Create the object in the net's first process."""
 
     def __init__(self, net: Description, mtu: int) -> None:
         self.ends = NetEnds(net)
@@ -168,17 +177,18 @@ class NetRooms:
         add_names(self.ends.names() + "127.0.0.1 localhost\n", self.ends.names_of_six(), first, self.ends.own[first].four)
 
     def descriptors(self) -> list[int]:
+        """Returns the descriptors of all interfaces."""
         return [interface for interface in self.interfaces if interface != AT_NO_HOST]
 
     def add_own(self, name: str) -> None:
-        """Adds the host's main addresses to the current namespace."""
+        """Adds the host's main addresses to this process's network namespace."""
         for path in ("all", "default"):
             try_to_write(f"/proc/sys/net/ipv4/conf/{path}/rp_filter", "0")  # a way back may be another one
         add_address("lo", self.ends.own[name].four, 32)
         in_ipv6(lambda: add_address("lo", self.ends.own[name].six, 128))
 
     def add_end(self, name: str, link: int, mtu: int) -> int:
-        """Adds a link's end to the current namespace; returns its descriptor."""
+        """Adds the interface for a link's end to this process's network namespace; returns the interface's descriptor."""
         interface = self.ends.interface(name, link)
         is_port = (link, name) in self.ends.ports
         descriptor = add_tun(
@@ -190,18 +200,18 @@ class NetRooms:
         return descriptor
 
     def let_forward(self, name: str) -> None:
-        """Turns on forwarding in the current namespace. Multicast is off until then, or the kernel would look for routers
-        there."""
+        """Makes this process's network namespace forward packets. Multicast is off until then, or the kernel would look for
+        routers there."""
         try_to_write("/proc/sys/net/ipv4/ip_forward", "1")  # also by interfaces that its programs add, as tunnels
         for link, _ in self.ends.links[name]:
             hand_on(self.ends.interface(name, link), is_asked=False)
         try_to_write("/proc/sys/net/ipv6/conf/all/forwarding", "1")
 
     def ways_of(self, name: str) -> Iterator[Request]:
-        """Yields routes from the current host to all reachable hosts and to multicast groups. Many hosts in a row that are reached
-        alike share a route, as a net of 200 hosts would have 80,000.
+        """Yields the routes from the host whose namespace this process is in: to all reachable hosts, and to multicast groups.
+        Hosts in a row with the same next hop share a route, because 200 hosts would need 80,000 routes otherwise.
 
-        If the net leaves routes to a daemon, it yields only routes to neighbours, with a metric worse than any daemon's.
+        If the net leaves routes to a daemon, yields only the routes to neighbours, with a metric worse than any daemon's metric.
         """
         own, numbers = self.ends.own[name], dict[int, int]()
         for link, _ in self.ends.links[name]:
@@ -225,12 +235,14 @@ class NetRooms:
             yield interface_route(GROUPS[0], next(iter(numbers.values())), own.four, GROUPS[1], metric=1)
 
     def know_groups(self, name: str, does: bool) -> None:
+        """Turns multicast groups on or off (`does`) at a host's interfaces."""
         enter(self.network[name])
         for link, _ in self.ends.links[name]:
             know_groups(self.ends.interface(name, link), does)
 
     def lead_out(self, outside: Outside, by: str) -> None:
-        """Connects a host to the system's network. If the host forwards packets, the other hosts reach the outside through it."""
+        """Connects the host `by` to the system's network. If the host forwards packets, the other hosts reach the outside through
+        the host."""
         interfaces = [self.ends.interface(by, link) for link, _ in self.ends.links[by]] if self.ends.net.hosts[by].forwards else []
         others = (
             [address for name in self.network if name != by for address in self.ends.all_of(name) if ":" in address]
@@ -259,6 +271,7 @@ class NetRooms:
         socket.sethostname(name)
 
     def dropped(self) -> list[int]:
+        """Returns how many packets the system dropped before each way."""
         by_host = dict[str, dict[str, int]]()
         for name, network in self.network.items():
             enter(network)
@@ -266,7 +279,8 @@ class NetRooms:
         return self.ends.drops(by_host)
 
     def unforwarded(self) -> dict[str, dict[str, int]]:
-        """Returns the packets for other hosts that the system didn't forward, by host and the system's counters."""
+        """Returns how many packets for other hosts the system didn't forward, for each host and each counter in the system. Omits
+        hosts without such packets."""
         table = {}
         for name, network in self.network.items():
             enter(network)

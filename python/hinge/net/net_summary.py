@@ -1,4 +1,5 @@
-"""The summary of a net's run: each way with packets, all links together, and the hosts whose commands failed."""
+"""The summary of a net's run: each way (direction of a link) with packets, all links together, and the hosts whose commands
+failed."""
 
 from __future__ import annotations
 
@@ -21,6 +22,7 @@ MOST_SHOWN, MOST_DRAWN = 3, 50  # changes in a line, and lines of what was drawn
 
 
 def of_hosts(endings: dict[str, Ended]) -> Iterator[str]:
+    """Yields a line about each host whose command ended before the net did, or was killed by an act or SIGKILL."""
     for name, one in endings.items():
         if one.by == "itself":
             yield f"{name}: ended with {name_of(one.status)} after {one.after:.1f} s"
@@ -31,14 +33,15 @@ def of_hosts(endings: dict[str, Ended]) -> Iterator[str]:
 
 
 def moment_of(act: TimedEvent, main: Optional[int]) -> Optional[int]:
-    """Returns the moment of an `at` line in ns on the links' clock, or None if the main command didn't start."""
+    """Returns the moment of an `at` line in ns on the links' clock; None if the moment counts from a main command that didn't
+    start."""
     if not act.moment.of_main:
         return act.moment.ns
     return None if main is None else main + act.moment.ns
 
 
 def act_records(acts: Sequence[TimedEvent], result: Sequence[Done], main: Optional[int], end: int) -> list[dict[str, object]]:
-    """Returns the JSON records of all acts from `at` lines and `hinge change`, with their moments."""
+    """Returns the JSON records for all acts and changes until `end`, in order: from `at` lines, and acts from `hinge change`."""
     hosts = [{"moment": one.moment, "at": str(one.act.moment), "words": f"{one.act.word} {one.act.host}"} for one in result]
     links = [
         {"moment": moment, "at": str(one.moment), "words": one.event.words}
@@ -51,12 +54,13 @@ def act_records(acts: Sequence[TimedEvent], result: Sequence[Done], main: Option
 
 
 def acts_text(acts: Sequence[TimedEvent]) -> str:
+    """Returns the first few `at` lines in a text, and how many more there are."""
     lines = [f"`{one}`" for one in acts[:MOST_SHOWN]]
     return ", ".join(lines) + (f" and {len(acts) - MOST_SHOWN} more" if len(acts) > MOST_SHOWN else "")
 
 
 def of_plan(acts: Sequence[TimedEvent], main: Optional[int], end: int) -> Iterator[str]:
-    """Returns the values that a seed has drawn, and the changes before the main command."""
+    """Yields lines about the events that a seed drew, and about the events that came before the main command."""
     draw_lines = [one for one in acts if one.is_drawn and (moment_of(one, main) or 0) <= end]
     yield from (f"drawn: {one}" for one in draw_lines[:MOST_DRAWN])
     if len(draw_lines) > MOST_DRAWN:
@@ -69,6 +73,7 @@ def of_plan(acts: Sequence[TimedEvent], main: Optional[int], end: int) -> Iterat
 
 
 def net_lines(net: Description, counts: Counts, drops: Sequence[int]) -> Iterator[str]:
+    """Yields a line with the counts for each way that carried or dropped packets."""
     for name, way, losses in zip(net.ways(), counts.ways, drops):
         if way["came"] or losses:
             seldom = "".join(f", {way[key]} {words}" for key, words in (*SELDOM, ("refused", "refused by the system")) if way[key])
@@ -79,12 +84,13 @@ def net_lines(net: Description, counts: Counts, drops: Sequence[int]) -> Iterato
 
 
 def of_unforwarded(table: dict[str, dict[str, int]]) -> Iterator[str]:
+    """Yields a line about each host that didn't forward packets."""
     for name, counts in table.items():
         yield f"{name}: {sum(counts.values())} packets weren't forwarded ({', '.join(f'{key} {count}' for key, count in counts.items())})"
 
 
 def net_record(net: Description, counts: Counts, drops: Sequence[int], endings: dict[str, Ended]) -> dict[str, object]:
-    """Returns the summary as JSON."""
+    """Returns the counts for the net, each host and each way, for JSON."""
     ends = [one for link in net.links for one in (link.ends, link.ends[::-1])]
     ways: list[dict[str, object]] = [
         {"from": one, "to": two, "pipe": pipe, **way_record(way, losses)}
@@ -94,7 +100,7 @@ def net_record(net: Description, counts: Counts, drops: Sequence[int], endings: 
 
 
 class NetRan(NamedTuple):
-    """How a net went."""
+    """Holds a net's results after the run."""
 
     status: int
     counts: Counts
@@ -107,27 +113,28 @@ class NetRan(NamedTuple):
 
 
 def silent(net: Description, wait: Wait, status: Optional[int]) -> str:
-    """Why a port that was waited for isn't there: with the status of the host's command where that has ended."""
+    """Returns a text that says that nothing listens at a port, and the reason if the host's command has ended with `status`."""
     end = f" after {wait.lasting:g} s" if status is None else f"; its command ended with {status}"
     lack = lacking(net.hosts[wait.host].command.removeprefix("exec ").split()) if status == NOT_FOUND else None
     return f"{wait.host} doesn't listen at port {wait.port}{end}{f' ({lack})' * bool(lack)}"
 
 
 def status_without(missing: str) -> int:
-    """Returns the status for a net without a port that its main command needs."""
+    """Returns the status for a net that ended because a required port is missing; `missing` is the text about the port."""
     return NOT_FOUND if f"ended with {NOT_FOUND}" in missing else VOID
 
 
 def of_nothing(order: NetOrder, acts: Sequence[Done]) -> Iterator[tuple[str, bool]]:
-    """Yields the faults of hosts on which nothing ran, and whether a seed drew each. A stop keeps `hinge exec` from an open net's host."""
+    """Yields each fault of a host on which nothing ran, and whether a seed drew the fault. Omits stops in a net with --control,
+    because there a stop has an effect even so: the stop keeps `hinge exec` from the host."""
     drawn = {(one.moment, one.event.word, one.event.of) for one in order.made.events if one.is_drawn}
     for act in (one.act for one in acts if one.is_idle and not (one.act.word == "stop" and order.options.control)):
         yield f"`{act.word} {act.host}`", (act.moment, act.word, (act.host,)) in drawn
 
 
 def report_net(order: NetOrder, ran: NetRan, waits: Optional[Waits], tell: Callable[[str], None] = say) -> int:
-    """Reports the run, and writes the file that --json names; returns the status, or that for a void run. In simulated time nothing
-    waits."""
+    """Prints the summary with the verdict on the run, and writes the file that --json names. Returns the main command's status,
+    or the status for a void run. `waits` is None in simulated time, where no program waits for a processor."""
     net = order.net
     counts = ran.counts
     names = order.net.ways()

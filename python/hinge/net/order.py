@@ -1,4 +1,4 @@
-"""The options of a net, and the plan that its links read."""
+"""The options for a net's run with their meanings, and the plan's text for the links' process."""
 
 from __future__ import annotations
 
@@ -23,7 +23,7 @@ Linked = Mapping[str, "list[int]"]  # the descriptors of a host's cgroup, whose 
 
 
 class NetOrder(NamedTuple):
-    """A net's run: the command line's options, and their meanings."""
+    """Describes a net's run: the command line's options, and their meanings."""
 
     options: NetOptions
     net: Description
@@ -43,7 +43,7 @@ class NetOrder(NamedTuple):
 
 
 class LinksPlan:
-    """The text that the host of all links reads."""
+    """Builds the plan's text for the process that emulates all links."""
 
     def __init__(self, order: NetOrder, ends: NetEnds, linked: Linked) -> None:
         self.order = order
@@ -52,7 +52,7 @@ class LinksPlan:
         self.linked = linked
 
     def text(self) -> str:
-        """Returns the plan, with the lines for an audit along the paths after the line that opens the transcript."""
+        """Returns the plan. If there is a transcript, the plan's second part describes the hosts and paths for an audit."""
         into = self.net.ways_into_switches()
         plan = self.order.plan + "".join(f"switch {' '.join(map(str, ways))}\n" for ways in into.values() if ways)
         if self.order.options.transcript is None:
@@ -69,10 +69,12 @@ class LinksPlan:
         )
 
     def is_of_links(self, act: PlannedAct) -> bool:
+        """Returns whether the links' process carries out an act."""
         return act.host in self.linked and ACTS[act.word].is_write
 
     def act_lines(self) -> list[str]:
-        """Returns the hosts and their acts that the links carry out, in the file's order, after all events of links."""
+        """Returns the lines for hosts with cgroups and for the acts on them that the links carry out. The plan contains these
+        lines after all link events, in the file's order."""
         lines = [
             f"{'main ' * act.moment.of_main}at {act.moment.ns} {act_line(act)}"
             for act in self.order.made.acts
@@ -81,7 +83,7 @@ class LinksPlan:
         return [*(f"host {name} {' '.join(map(str, files))}" for name, files in self.linked.items()), *lines]
 
     def act_remarks(self) -> list[str]:
-        """Returns remarks for the scheduled cuts and heals; other acts are recorded when they happen."""
+        """Returns lines that record the scheduled cuts and heals in the transcript. Other acts are recorded when they happen."""
         return [
             f"{'main ' * moment.of_main}at {moment.ns} remark act,{event.words}"
             for moment, event, _ in self.order.made.events
@@ -89,9 +91,10 @@ class LinksPlan:
         ]
 
     def pipes_of(self, number: int, way: int) -> list[str]:
-        """Returns remarks with the hosts at both ends for each of the way's pipes.
+        """Returns remarks that name the hosts at both ends, for each pipe on a way. `number` is the link's number, and `way` is 0
+        or 1.
 
-        With jitter, packets pass twice: a point `START~END` separates both passes.
+        With jitter, packets pass through a second pipe: a point `START~END` stands for the place between both pipes.
         """
         start, end = self.net.links[number].ends[way], self.net.links[number].ends[1 - way]
         pipe = 2 * number + way + 1
@@ -108,8 +111,8 @@ class LinksPlan:
 
 
 def with_command(net: Description, command: list[str], path: str, shell: Optional[str]) -> Description:
-    """Returns the net with the main command of the command line. Wrong: the file and the command line both name one, or neither
-    does."""
+    """Gives the net the command line's main command or shell; returns the net. Wrong: the net's file and the command line both
+    name a main command, or neither does, or the shell's host isn't in the net."""
     if shell is not None:
         if not net.is_room(shell) or command:
             raise Wrong(
@@ -131,11 +134,13 @@ def with_command(net: Description, command: list[str], path: str, shell: Optiona
 
 
 def net_of(options: NetOptions) -> Description:
+    """Returns the net that the options describe. Wrong: the net's file or the main command is wrong."""
     return with_command(read_description(options.file), options.command, options.file, options.shell)
 
 
 def outside_of(options: NetOptions, net: Description) -> Optional[str]:
-    """Returns the host of --outside. Wrong: the net doesn't contain it."""
+    """Returns the host from --outside or --outside-loopback, or None without these options. Wrong: the net doesn't contain the
+    host."""
     result = options.outside_loopback or options.outside
     if result is not None and not net.is_room(result):
         raise Wrong(f"--outside {result}: no host of {options.file}")
@@ -143,12 +148,12 @@ def outside_of(options: NetOptions, net: Description) -> Optional[str]:
 
 
 def end_wait_of(options: NetOptions) -> float:
-    """Returns the seconds of --end-wait."""
+    """Returns the seconds from --end-wait."""
     return duration(options.end_wait, "--end-wait") / 1e9
 
 
 def net_order(options: NetOptions, net: Description, mask: Mask, simulated: bool) -> NetOrder:
-    """Wrong, Missing: the net needs something that its time or this system lacks."""
+    """Returns the net's run for these options. Wrong, Missing: the net needs something that real time or this system lacks."""
     seed = drawn_seed(options.seed)
     net_plan = NetPlan(net, net.longest(options.mtu), seed)
     if not simulated and any(act.word == "skew" for act in net_plan.acts):

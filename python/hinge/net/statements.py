@@ -1,4 +1,4 @@
-"""The lines of a file that describes a net, read word by word, with error messages that point to the wrong word."""
+"""The lines in a net's file, read word by word, with error messages that point to the wrong word."""
 
 from __future__ import annotations
 
@@ -22,7 +22,7 @@ class Unobeyed(Wrong):
 
 
 class Statement:
-    """A line of the file; a line that ends in a backslash continues on the next."""
+    """Holds a line from a net's file, and the words that are still unread. A line that ends in a backslash continues on the next."""
 
     __slots__ = ("path", "number", "text", "word", "rest")
 
@@ -33,23 +33,27 @@ class Statement:
 
     @property
     def place(self) -> str:
+        """Returns the file and the line's number, for messages."""
         return f"{self.path} line {self.number}" if self.number else self.path
 
     def wrong(self, word: str, why: str) -> Wrong:
+        """Returns the error that a word is wrong, or the whole line if the word is empty."""
         return Wrong(f"{self.place}: {word!r}: {why}" if word else f"{self.place}: {why}")
 
     def unknown(self, word: str, items: Iterable[str], what: str, otherwise: str = "") -> Wrong:
+        """Returns the error that a word isn't one of `items`. The message suggests a right line or a similar item, or else says
+        `otherwise`."""
         near = difflib.get_close_matches(word, items, 1) if not word[:1].isdigit() else []
         line = self.meant()
         right = f"write {line}" if line else f"did you mean {near[0]!r}?" if near else otherwise
         return self.wrong(word, f"{what}; {right}" if right else what)
 
     def meant(self) -> str:
-        """Returns the likely intended line if this isn't a net's line; lines for `hinge change` contain no moment."""
+        """Returns the line that was probably meant, or an empty text. A line for `hinge change` contains no moment."""
         return line_meant(self.text) if self.number else line_meant(f"at 0s {self.text[3:]}").replace("at 0s ", "")
 
     def refuse_twice(self, names: Sequence[str]) -> None:
-        """Wrong: the line names a host twice."""
+        """Checks host names. Wrong: the line names a host twice."""
         second = next((name for place, name in enumerate(names) if name in names[:place]), None)
         if second is not None:
             before, _, behind = f"{self.text} ".removeprefix("" if self.number else "at ").rpartition(f" {second} ")
@@ -60,7 +64,7 @@ class Statement:
         return first_word(self.rest)[0]
 
     def take(self, form: str) -> str:
-        """Returns the next word and moves on. If the word is missing, the error message shows `form`."""
+        """Reads and returns the next word. Wrong: the word is missing; the message shows `form`, the line's right form."""
         word, rest = first_word(self.rest)
         if not word:
             raise self.wrong("", f"a word is missing: {form}")
@@ -68,7 +72,7 @@ class Statement:
         return word
 
     def take_time(self, form: str) -> int:
-        """Reads a time in ns. Wrong: the next word is no time."""
+        """Reads a time; returns it in ns. Wrong: the next word is missing or is no time."""
         word = self.take(form)
         try:
             with placed(self.place):
@@ -79,7 +83,7 @@ class Statement:
             raise
 
     def both_ways(self, text: str) -> tuple[str, str]:
-        """Returns the words of a link's two ways, from `LINK`, `LINK / LINK` or `preset NAME`."""
+        """Returns the words of a link's two ways (directions), from `LINK`, `LINK / LINK` or `preset NAME`."""
         words = text.split()
         if words[:1] == ["preset"]:
             try:
@@ -91,6 +95,7 @@ class Statement:
         return up, down if slash else up
 
     def done(self, form: str) -> None:
+        """Checks that no word is left. Wrong: there are more words."""
         if self.peek():
             raise self.wrong(self.peek(), f"nothing belongs behind it: {form}")
 
@@ -101,7 +106,7 @@ SUBJECTS = {"mtu": -1, "trace": -1, "wait": 4, "disk": 3, "faults": 1, "routes":
 
 
 def statements(path: str) -> Iterator[Statement]:
-    """Yields the statements of a file. Wrong: two lines set the same value."""
+    """Yields the statements in a net's file. Wrong: two lines say the same thing, such as a link's MTU."""
     before = dict[str, Statement]()
     for statement in all_statements(path):
         words = statement.text.split()
@@ -113,8 +118,8 @@ def statements(path: str) -> Iterator[Statement]:
 
 
 def all_statements(path: str) -> Iterator[Statement]:
-    """Yields all statements. A command keeps its comments for the shell; other lines end at a comment. Wrong: a line and its
-    continuation lines are too long."""
+    """Yields the lines in a net's file, each joined with its continuation lines. The shell reads the comments in commands; other
+    lines end at a comment. Wrong: a line is too long with its continuation lines."""
     before, first = "", 0
     for number, line in enumerate(chain(read_lines(path), [""]), 1):
         first = first if before else number
