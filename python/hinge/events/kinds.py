@@ -23,8 +23,8 @@ class Moment(NamedTuple):
     """Describes an `at` line's moment, counted from the links' start or the main command's start."""
 
     ns: int
-    of_main: bool
-    base: str  # as it was written: main+, start+ or nothing
+    of_main: bool  # whether the moment counts from the main command
+    base: str  # how the file names the start: main+, start+ or an empty text
 
     def __str__(self) -> str:
         return self.base + spelled_ns(self.ns)
@@ -33,7 +33,7 @@ class Moment(NamedTuple):
 class Port(NamedTuple):
     """Describes a TCP or UDP port, for a cut that loses only the packets to and from this port."""
 
-    protocol: int
+    protocol: int  # a value of PROTOCOLS
     number: int
 
 
@@ -41,16 +41,17 @@ class Port(NamedTuple):
 class Event:
     """Describes an event on a host or on ways (directions of links). Link L, counted from 0, has the ways 2L and 2L + 1."""
 
-    of: "tuple[Union[int, str], ...]"  # the ways, or the host
-    words: str  # of the `at` line, behind the moment
-    port: "Optional[Port]" = None  # the packets that a cut loses, where these aren't all
-    word = ending = ""  # the event's own word, and the word of the event that ends it
+    of: "tuple[Union[int, str], ...]"  # the numbers of the ways, or the name of the host
+    words: str  # the words of the `at` line after the moment
+    port: "Optional[Port]" = None  # the port whose packets a cut loses; None if a cut loses all packets
+    word = ""  # the word that begins the event's form
+    ending = ""  # the word of the event that ends this event's fault
     length = LAST_MOMENT  # ns
 
     @property
     def ways(self) -> "list[int]":
         """Returns the numbers of the event's ways; an empty list for an event on a host."""
-        return [one for one in self.of if isinstance(one, int)]
+        return [way for way in self.of if isinstance(way, int)]
 
 
 @dataclass(frozen=True)
@@ -105,7 +106,7 @@ class HostAct(Event):
 
     word: str = ""
     length: int = LAST_MOMENT
-    skew: str = ""  # for the kernel
+    skew: str = ""  # the words that the kernel reads for a skew
 
     @property
     def host(self) -> str:
@@ -121,7 +122,7 @@ class TimedEvent(NamedTuple):
 
     moment: Moment
     event: Event
-    is_drawn: bool = False  # by a seed
+    is_drawn: bool = False  # whether a seed drew the event or its moment
 
     def __str__(self) -> str:
         return f"at {self.moment} {self.event.words}"
@@ -133,8 +134,8 @@ class PlannedAct(NamedTuple):
     moment: Moment
     word: str
     host: str
-    fault: int = 0  # the number of a kill, a crash or a stop, which its end has too
-    more: str = ""  # of `skew`, for the kernel
+    fault: int = 0  # the number of a fault, which the act that ends the fault has too
+    more: str = ""  # the words that the kernel reads for a skew
 
 
 def kept(event: Event) -> Event:
@@ -146,22 +147,24 @@ class FaultEnds:
     """Finds the events that end faults, such as a heal after a cut. An event's place is its index in the list of all events."""
 
     def __init__(self, events: Sequence[TimedEvent]) -> None:
+        # The moments and places by the base, the event's word, the way or host, and the port.
         self.table = defaultdict[tuple[bool, str, Union[int, str], Optional[Port]], list[tuple[int, int]]](list)
         for place, (moment, event, _) in enumerate(events):
-            for one in event.of if event.word in ENDINGS else ():
-                self.table[moment.of_main, event.word, one, event.port].append((moment.ns, place))
+            if event.word in ENDINGS:
+                for target in event.of:
+                    self.table[moment.of_main, event.word, target, event.port].append((moment.ns, place))
         for places in self.table.values():
             places.sort()
 
-    def first(self, of_main: bool, fault: Event, one: Union[int, str], after: tuple[int, int]) -> list[tuple[int, int]]:
+    def first(self, of_main: bool, fault: Event, target: Union[int, str], after: tuple[int, int]) -> list[tuple[int, int]]:
         """Returns a list with the moment and place at which the first event after `after` ends a fault on a way or host; an empty
         list without such an event. An event without a port ends the faults on all ports."""
-        found = list[tuple[int, int]]()
+        firsts = list[tuple[int, int]]()
         for port in {None, fault.port}:
-            places = self.table.get((of_main, fault.ending, one, port), [])
-            at = bisect_right(places, after)
-            found += places[at : at + 1]
-        return [min(found)] if found else []
+            ends = self.table.get((of_main, fault.ending, target, port), [])
+            index = bisect_right(ends, after)
+            firsts += ends[index : index + 1]
+        return [min(firsts)] if firsts else []
 
 
 def fault_ends(events: Sequence[TimedEvent]) -> Iterator[tuple[int, int]]:
@@ -169,9 +172,11 @@ def fault_ends(events: Sequence[TimedEvent]) -> Iterator[tuple[int, int]]:
     count from different starts can't be compared, so an event that counts from the other start is taken as early."""
     ends = FaultEnds(events)
     for place, (moment, event, _) in enumerate(events):
-        for one in event.of if event.ending else ():
-            firsts = ends.first(not moment.of_main, event, one, (-1, -1))
-            behind = ends.first(moment.of_main, event, one, (moment.ns, place))
-            firsts += [end for end in behind if end[0] < moment.ns + event.length]
+        if not event.ending:
+            continue
+        for target in event.of:
+            firsts = ends.first(not moment.of_main, event, target, (-1, -1))
+            later = ends.first(moment.of_main, event, target, (moment.ns, place))
+            firsts += [end for end in later if end[0] < moment.ns + event.length]
             if firsts:
                 yield place, min(firsts)[1]

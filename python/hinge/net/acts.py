@@ -24,12 +24,12 @@ LONGEST_LOOK = 3600.0  # s, after which it is looked again
 KILL_PATIENCE, KILL_POLL = 5.0, 0.001  # s
 
 
-class Done(NamedTuple):
+class FinishedAct(NamedTuple):
     """Describes a finished act, with its moment on the links' clock."""
 
     moment: int  # ns
     act: PlannedAct
-    is_idle: bool = False  # a fault of a host whose command had ended by itself, so that nothing ran there
+    is_idle: bool = False  # whether nothing ran on the host, because the host's command had ended by itself
 
 
 def act_line(act: PlannedAct) -> str:
@@ -125,12 +125,13 @@ class Acts(Ticker):
         self.is_of_links = is_of_links
         self.beside = beside
         self.has_nothing = has_nothing
-        self.pending: list[tuple[float, PlannedAct]] = []  # by the monotonic clock
-        self.asked: queue.SimpleQueue[tuple[list[PlannedAct], queue.SimpleQueue[Done]]] = queue.SimpleQueue()
-        self.done: list[Done] = []
-        self.rests: list[tuple[str, Callable[[], None]]] = []  # what is left to do of acts, by hosts
-        self.killed_at: dict[str, float] = {}  # when hosts were killed last by a plan, by the monotonic clock
-        self.lasting: dict[tuple[str, str], set[int]] = {}  # the faults that go on, by hosts and by what ends them
+        self.pending: list[tuple[float, PlannedAct]] = []  # the scheduled acts, with moments on the monotonic clock
+        # The requested acts, and a queue for the reply.
+        self.asked: queue.SimpleQueue[tuple[list[PlannedAct], queue.SimpleQueue[FinishedAct]]] = queue.SimpleQueue()
+        self.done: list[FinishedAct] = []
+        self.rests: list[tuple[str, Callable[[], None]]] = []  # the hosts with functions that complete acts on them
+        self.killed_at: dict[str, float] = {}  # each host's last kill by the plan, on the monotonic clock
+        self.lasting: dict[tuple[str, str], set[int]] = {}  # the numbers of ongoing faults, by the host and the word that ends them
 
     def begin(self, of_main: bool, moment: int) -> None:
         """Schedules the planned acts that count from the main command if `of_main`, otherwise from the links' start. The present
@@ -141,7 +142,7 @@ class Acts(Ticker):
         """Schedules acts. The present time on the clock of their moments is `moment`, in ns."""
         now = time.monotonic()
         self.pending += [(now + (act.moment.ns - moment) / SECOND, act) for act in acts]
-        self.pending.sort(key=lambda one: one[0])
+        self.pending.sort(key=lambda due_act: due_act[0])
 
     def left(self) -> float:
         """Returns the seconds until the next act, or until the next tick of the ticker beside if that is earlier."""
@@ -153,7 +154,8 @@ class Acts(Ticker):
         while True:
             if self.pending and self.pending[0][0] <= time.monotonic():
                 due, act = self.pending.pop(0)
-                self.killed_at |= {act.host: due} if ENDS.get(act.word) == "restart" else {}
+                if ENDS.get(act.word) == "restart":
+                    self.killed_at[act.host] = due
                 self.carry_out(act)
             elif self.rests:
                 self.finish(self.rests[0][0])
@@ -163,33 +165,38 @@ class Acts(Ticker):
             self.beside.tick()
         while not self.asked.empty():
             acts, reply = self.asked.get()
-            for one in filter(self.is_of_links, acts):
-                length = one.moment.ns - acts[0].moment.ns
-                self.lines.ask(f"at {length} {act_line(one)}" if length else f"line {act_line(one)}")
-            result = self.carry_out(acts[0])
-            self.finish(acts[0].host)
-            reply.put(result)
+            reply.put(self.carry_out_request(acts))
             self.add(acts[1:], acts[0].moment.ns)
 
-    def carry_out(self, act: PlannedAct) -> Done:
+    def carry_out_request(self, acts: list[PlannedAct]) -> FinishedAct:
+        """Carries out the first of the requested acts, and requests all acts of the links from them; returns the finished act."""
+        for act in filter(self.is_of_links, acts):
+            length = act.moment.ns - acts[0].moment.ns
+            self.lines.ask(f"at {length} {act_line(act)}" if length else f"line {act_line(act)}")
+        result = self.carry_out(acts[0])
+        self.finish(acts[0].host)
+        return result
+
+    def carry_out(self, act: PlannedAct) -> FinishedAct:
         """Carries out an act, unless the act would end a fault that other events continue; returns the finished act."""
         may_be_idle = act.word in ENDS and not self.goes_on(act.host, "restart")
-        if self.is_held(act):
-            return Done(act.moment.ns, act)
+        if self.note_fault(act):
+            return FinishedAct(act.moment.ns, act)
         self.finish(act.host)
         is_idle = may_be_idle and not self.is_of_links(act) and self.has_nothing(act.host)
         rest = self.do_act(act)
-        moment, met_nothing = self.told_of(act)
-        self.done.append(Done(moment, act, is_idle or may_be_idle and met_nothing))
-        self.rests += [(act.host, rest)] if rest else []
+        moment, met_nothing = self.recorded(act)
+        self.done.append(FinishedAct(moment, act, is_idle or (may_be_idle and met_nothing)))
+        if rest:
+            self.rests.append((act.host, rest))
         return self.done[-1]
 
     def note_later(self, host: str, moment: int) -> None:
         """Changes the moment of a host's latest finished act to a later moment, at which the act's effect began."""
-        place = max(place for place, one in enumerate(self.done) if one.act.host == host)
+        place = max(place for place, finished in enumerate(self.done) if finished.act.host == host)
         self.done[place] = self.done[place]._replace(moment=moment)
 
-    def told_of(self, act: PlannedAct) -> tuple[int, bool]:
+    def recorded(self, act: PlannedAct) -> tuple[int, bool]:
         """Records an act in the transcript, or asks the links about an act that they carried out. Returns the act's moment in ns
         on the links' clock, and whether the links found no process for a fault."""
         if not self.is_of_links(act):
@@ -200,11 +207,12 @@ class Acts(Ticker):
 
     def finish(self, host: str) -> None:
         """Completes the remaining work of all acts on a host."""
-        for one in [one for one in self.rests if one[0] == host]:
-            self.rests.remove(one)
-            one[1]()
+        for rest in [rest for rest in self.rests if rest[0] == host]:
+            self.rests.remove(rest)
+            _, complete = rest
+            complete()
 
-    def is_held(self, act: PlannedAct) -> bool:
+    def note_fault(self, act: PlannedAct) -> bool:
         """Notes that a fault begins or ends. Returns whether the act has to be left out, because the act would end a fault while
         another such fault continues.
 
@@ -231,9 +239,9 @@ class Acts(Ticker):
 
         Wrong: the net is about to end.
         """
-        reply: queue.SimpleQueue[Done] = queue.SimpleQueue()
+        reply: queue.SimpleQueue[FinishedAct] = queue.SimpleQueue()
         self.asked.put((acts, reply))
-        os.kill(os.getpid(), signal.SIGCHLD)  # which it waits for
+        os.kill(os.getpid(), signal.SIGCHLD)  # wakes the thread that carries out the acts
         try:
             result = reply.get(timeout=PATIENCE)
         except queue.Empty:
@@ -246,6 +254,6 @@ class Acts(Ticker):
 
     def stopped(self) -> Iterator[str]:
         """Yields the names of all stopped hosts."""
-        for host in dict.fromkeys(one.act.host for one in self.done):
+        for host in dict.fromkeys(finished.act.host for finished in self.done):
             if self.goes_on(host, "cont"):
                 yield host

@@ -45,7 +45,9 @@ def with_files(options: NetOptions) -> NetOptions:
         if path:
             os.makedirs(path, exist_ok=True)
     if options.transcripts:
-        history, summary, net = (os.path.join(options.transcripts, name) for name in (HISTORY, SUMMARY, NET))
+        history = os.path.join(options.transcripts, HISTORY)
+        summary = os.path.join(options.transcripts, SUMMARY)
+        net = os.path.join(options.transcripts, NET)
         options = options.but(transcript=options.transcript or history, json=options.json or summary)
         if os.path.realpath(options.file) != os.path.realpath(net):
             shutil.copyfile(options.file, net)  # by which `hinge look` judges the session
@@ -63,7 +65,8 @@ def refuse_idle_lines(net_plan: NetPlan, is_open: bool) -> None:
         if statement.word == "at":
             with placed(statement.place):
                 refuse_second([Change(moment, line)], before.setdefault(of_main, set()))
-        if option := twice(line.split()):
+        option = twice(line.split())
+        if option:
             raise Unobeyed(f"{statement.place}: {option} stands twice; write one of them")
     if net_plan.net.waits and not net_plan.has_main and not is_open:
         raise Wrong(f"wait {net_plan.net.waits[0].host}: no command waits; write a line `main NAME COMMAND`, which begins then")
@@ -73,16 +76,20 @@ def show_net(net: Description) -> None:
     """Prints the hosts with their addresses and commands, and then each pipe with its way's words."""
     ends = NetEnds(net)
     for name, host in net.hosts.items():
-        show(
-            f"{name} switch"
-            if host.is_switch
-            else f"{name} {' '.join(ends.own[name])}{' router' * host.forwards}{' main' if name == net.main else ''}"
-            f"{f': {host.command}' if host.command else ''}"
-        )
+        if host.is_switch:
+            show(f"{name} switch")
+            continue
+        words = [name, *ends.own[name]]
+        if host.forwards:
+            words.append("router")
+        if name == net.main:
+            words.append("main")
+        show(" ".join(words) + (f": {host.command}" if host.command else ""))
     for number, link in enumerate(net.links):
-        for pipe, (one, two, words) in enumerate(((*link.ends, link.ways[0]), (*link.ends[::-1], link.ways[1])), 2 * number + 1):
-            at = [f"{name} {ends.at_end(name, number).four}" if name in ends.own else name for name in (one, two)]
-            show(f"pipe {pipe}: {at[0]} > {at[1]}: {words or 'open'}")
+        one, two = (f"{name} {ends.at_end(name, number).four}" if name in ends.own else name for name in link.ends)
+        up, down = link.ways
+        show(f"pipe {2 * number + 1}: {one} > {two}: {up or 'open'}")
+        show(f"pipe {2 * number + 2}: {two} > {one}: {down or 'open'}")
 
 
 def refuse_gap(net: Description, options: NetOptions) -> None:
@@ -105,19 +112,25 @@ def run(arguments: NetOptions) -> None:
     net = net_of(arguments)
     seed = drawn_seed(arguments.seed)
     net_plan = NetPlan(net, net.longest(arguments.mtu), seed)  # so that a wrong word is told before folders are made
-    limit_of(arguments.late), end_wait_of(arguments), outside_of(arguments, net)
-    refuse_idle_lines(net_plan, bool(arguments.control or arguments.stay or arguments.while_open is not None))
+    # These three are called only for their refusals.
+    limit_of(arguments.late)
+    end_wait_of(arguments)
+    outside_of(arguments, net)
+    stays = arguments.stay or arguments.while_open is not None
+    refuse_idle_lines(net_plan, bool(arguments.control or stays))
     refuse_idle(net_plan.plan, [link.statement.place for link in net.links for _ in link.ways], bool(arguments.control))
     is_of_links = arguments.seed is not None and not (arguments.simulated or arguments.control)
     refuse_idle_seed(is_of_links, draws(net_plan.plan) or bool(net_plan.drawn))
     if arguments.dry_run:
         show_net(net)
-        for line in [*([f"# by seed {seed}"] if net_plan.drawn else []), *net_plan.drawn]:
+        if net_plan.drawn:
+            show(f"# by seed {seed}")
+        for line in net_plan.drawn:
             show(line)
         return
     arguments = with_files(arguments)
     if arguments.simulated:
-        if arguments.stay or arguments.while_open is not None:
+        if stays:
             raise Wrong("--stay, --while-open: nobody can end a machine of its own; simulated time ends with its commands")
         sys.exit(start.run_simulated(arguments))
     begin(arguments)

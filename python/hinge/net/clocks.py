@@ -23,12 +23,14 @@ def read_skew(statement: Statement) -> str:
     if word[0] not in "+-":
         raise statement.wrong(word, f"how far the clock is ahead, as +2s, or behind, as -2s: {SKEW}")
     with placed(statement.place):
-        ahead = duration(word[1:]) * (1 if word[0] == "+" else -1)
-    gains = statement.take(SKEW) if statement.peek() else "0ppm"
-    match = re.fullmatch(r"([+-]?\d{1,6}(?:\.\d{1,3})?)ppm", gains, re.ASCII)
+        length = duration(word[1:])
+    ahead = length if word[0] == "+" else -length
+    rate = statement.take(SKEW) if statement.peek() else "0ppm"
+    match = re.fullmatch(r"([+-]?\d{1,6}(?:\.\d{1,3})?)ppm", rate, re.ASCII)
     if not match or abs(float(match[1])) > MOST_PPM:
-        raise statement.wrong(gains, f"what the clock gains, as 100ppm or -50.5ppm, at most {MOST_PPM}ppm: {SKEW}")
-    return f"{ahead} {round(float(match[1]) * 1000)}"
+        raise statement.wrong(rate, f"what the clock gains, as 100ppm or -50.5ppm, at most {MOST_PPM}ppm: {SKEW}")
+    gain = round(float(match[1]) * 1000)  # ns in a second
+    return f"{ahead} {gain}"
 
 
 def clock_number(host: str, hosts: Iterable[str]) -> int:

@@ -30,10 +30,12 @@ class Described:
     def __init__(self, folder: Path, link: str, back: Optional[str]) -> None:
         """`link` and `back` are the words for links that are added without words, as for `link`. The folder receives commands
         that have several lines."""
-        self.folder, self.default = folder, (link, back)
+        self.folder = folder
+        self.default_link = link
+        self.default_back = back
         self.lines: list[str] = []
         self.is_running = False
-        self.unsaid = 0  # links of which nothing else was said
+        self.unsaid = 0  # the number of links that were added without words
 
     def describe(self, text: str) -> None:
         """Adds lines in the format of a `hinge net` file. NetError: the net is already running."""
@@ -45,12 +47,17 @@ class Described:
         """Adds a host and its command. With `port`, `start` waits up to `wait` until something listens at the port."""
         text = command if isinstance(command, str) else shlex.join(command)
         if "\n" in text.strip() or text.endswith("\\"):
-            self.folder.mkdir(parents=True, exist_ok=True)
-            (self.folder / f"{name}.sh").write_text(text)
-            text = f". {shlex.quote(str(self.folder / f'{name}.sh'))}"
+            text = self.saved_script(name, text)
         self.describe(f"{word} {name} {text.strip()}")
         if port is not None:
             self.describe(f"wait {name} port {port} {spelled_time(wait)}")
+
+    def saved_script(self, name: str, text: str) -> str:
+        """Saves a command with several lines in the folder; returns a command in one line that runs the saved lines."""
+        self.folder.mkdir(parents=True, exist_ok=True)
+        path = self.folder / f"{name}.sh"
+        path.write_text(text)
+        return f". {shlex.quote(str(path))}"
 
     def router(self, name: str, command: Command = "", *, port: Optional[int] = None) -> None:
         """Adds a host that forwards packets."""
@@ -62,9 +69,9 @@ class Described:
         if preset is not None:
             link, back = either_way(preset, link, back)
         elif link is None:
-            link = self.default[0]
-            back = self.default[1] if back is None else back
-            self.unsaid = self.unsaid + 1
+            link = self.default_link
+            back = self.default_back if back is None else back
+            self.unsaid += 1
         ways = [link or ""] if back is None else [link or "", back]
         for way in ways:
             try:

@@ -82,12 +82,12 @@ Kind = Callable[[Description, list[str], Draw], list[RandomFault]]
 class Nemesis:
     """Describes the random faults that a line `nemesis` requests."""
 
-    kind: str
-    every: TimeSpan
-    lasting: TimeSpan
-    first: TimeSpan  # when the first fault starts
-    until: int  # ns
-    hosts: list[str]
+    kind: str  # a key of KINDS
+    every: TimeSpan  # the time from a fault's start to the next fault's start
+    lasting: TimeSpan  # the length of a fault
+    first: TimeSpan  # the moment when the first fault starts
+    until: int  # the last moment when a fault may start, in ns
+    hosts: list[str]  # the hosts that the faults may disturb
 
 
 def linked(net: Description, name: str, others: dict[str, int]) -> list[str]:
@@ -101,28 +101,30 @@ def placed_hosts(hosts: list[str]) -> dict[str, int]:
     return {name: place for place, name in enumerate(hosts)}
 
 
-def cut(net: Description, one: str, *others: str) -> Cut:
+def cut(net: Description, host: str, *others: str) -> Cut:
     """Returns a cut that affects a host's links, or only the links to other hosts."""
-    return Cut(net.ways_between(one, others), " ".join(["cut", one, *(["from"] if others else []), *others]))
+    words = ["cut", host, "from", *others] if others else ["cut", host]
+    return Cut(net.ways_between(host, others), " ".join(words))
 
 
-def cuts(net: Description, are_parted: Callable[[str, str], bool], ones: list[str], hosts: list[str]) -> list[RandomFault]:
-    """Returns the cuts that separate hosts: each link from a host in `ones` to another host is cut once, if `are_parted` is true
+def cuts(net: Description, are_parted: Callable[[str, str], bool], starts: list[str], hosts: list[str]) -> list[RandomFault]:
+    """Returns the cuts that separate hosts: each link from a host in `starts` to another host is cut once, if `are_parted` is true
     for both hosts."""
-    faults, rest = list[RandomFault](), placed_hosts(hosts)
-    for one in ones:
-        del rest[one]
-        others = [other for other in linked(net, one, rest) if are_parted(one, other)]
+    faults = list[RandomFault]()
+    rest = placed_hosts(hosts)
+    for host in starts:
+        del rest[host]
+        others = [other for other in linked(net, host, rest) if are_parted(host, other)]
         if others:
-            faults.append(cut(net, one, *others))
+            faults.append(cut(net, host, *others))
     return faults
 
 
 def halves(net: Description, hosts: list[str], draw: Draw) -> list[RandomFault]:
     """Separates half the hosts, chosen at random, from the other half."""
-    ones = draw.some(hosts, len(hosts) // 2)
-    own = {*ones}
-    return cuts(net, lambda _, other: other not in own, ones, hosts)
+    half = draw.some(hosts, len(hosts) // 2)
+    members = {*half}
+    return cuts(net, lambda _, other: other not in members, half, hosts)
 
 
 def one_apart(net: Description, hosts: list[str], draw: Draw) -> list[RandomFault]:
@@ -133,8 +135,8 @@ def one_apart(net: Description, hosts: list[str], draw: Draw) -> list[RandomFaul
 def ring(net: Description, hosts: list[str], draw: Draw) -> list[RandomFault]:
     """Arranges the hosts in a random ring, in which each host reaches only its two neighbours."""
     order = draw.shuffled(hosts)
-    near = {one: {order[at - 1], order[(at + 1) % len(order)], one} for at, one in enumerate(order)}
-    return cuts(net, lambda one, other: other not in near[one], hosts, hosts)
+    near = {host: {order[place - 1], order[(place + 1) % len(order)], host} for place, host in enumerate(order)}
+    return cuts(net, lambda host, other: other not in near[host], hosts, hosts)
 
 
 def majorities(net: Description, hosts: list[str], draw: Draw) -> list[RandomFault]:
@@ -147,7 +149,7 @@ def majorities(net: Description, hosts: list[str], draw: Draw) -> list[RandomFau
             if len(table[one]) < spare and len(table[two]) < spare:
                 table[one].add(two)
                 table[two].add(one)
-    return cuts(net, lambda one, other: other in table[one], hosts, hosts)
+    return cuts(net, lambda host, other: other in table[host], hosts, hosts)
 
 
 def isolated(net: Description, hosts: list[str], draw: Draw) -> list[RandomFault]:
@@ -185,23 +187,40 @@ def named_hosts(net: Description, statement: Statement, kind: str) -> list[str]:
         statement.take(NEMESIS)
         items = []
         while statement.peek():
-            items.append((net.room if kind in OF_COMMANDS else net.host)(statement, NEMESIS))
-            if kind in OF_COMMANDS:
-                refuse_act(statement, net, OF_COMMANDS[kind], items[-1], True)
+            items.append(read_host(net, statement, kind))
     else:
-        items = [
-            name
-            for name, host in net.hosts.items()
-            if not host.forwards
-            and name != net.main
-            and (host.command or kind not in OF_COMMANDS)
-            and (host.disks or kind != "crash-one")
-        ]
-    lonely = [name for name in items if kind == "isolate-one" and not net.ways_between(name, ())]
-    if lonely:
-        raise statement.wrong(lonely[0], "it has no link")
-    least = LEAST.get(kind, 1)
+        items = [name for name in net.hosts if may_disturb(net, name, kind)]
+    for name in items:
+        if kind == "isolate-one" and not net.ways_between(name, ()):
+            raise statement.wrong(name, "it has no link")
     statement.refuse_twice(items)
+    refuse_too_few(net, statement, kind, items)
+    return items
+
+
+def read_host(net: Description, statement: Statement, kind: str) -> str:
+    """Reads a host that a nemesis may disturb; returns its name. Wrong: the host can't have the nemesis's faults."""
+    if kind not in OF_COMMANDS:
+        return net.host(statement, NEMESIS)
+    name = net.room(statement, NEMESIS)
+    word = OF_COMMANDS[kind]
+    refuse_act(statement, net, word, name, ENDS[word] == "restart")
+    return name
+
+
+def may_disturb(net: Description, name: str, kind: str) -> bool:
+    """Returns whether a nemesis without `of` disturbs a host: acts need a command on the host, and crashes need a disk."""
+    host = net.hosts[name]
+    if host.forwards or name == net.main:
+        return False
+    if kind == "crash-one" and not host.disks:
+        return False
+    return kind not in OF_COMMANDS or host.command != ""
+
+
+def refuse_too_few(net: Description, statement: Statement, kind: str, items: list[str]) -> None:
+    """Checks that a nemesis can draw faults. Wrong: there are too few hosts, or no link that a partition could cut."""
+    least = LEAST.get(kind, 1)
     if len(items) < least:
         raise statement.wrong(kind, f"it takes {least} host{'s' if least > 1 else ''} or more")
     places = placed_hosts(items)
@@ -209,7 +228,6 @@ def named_hosts(net: Description, statement: Statement, kind: str) -> list[str]:
         raise statement.wrong(
             kind, "no link leads from one of its hosts to another one; `isolate-one` is for hosts behind a switch"
         )
-    return items
 
 
 def span_behind(statement: Statement, key: str, otherwise: Optional[TimeSpan] = None) -> TimeSpan:
@@ -229,7 +247,8 @@ def read_nemesis(net: Description, statement: Statement) -> Nemesis:
     kind = statement.take(NEMESIS)
     if kind not in KINDS:
         raise statement.unknown(kind, KINDS, "not a nemesis", f"write one of {', '.join(KINDS)}")
-    every, lasting = span_behind(statement, "every"), span_behind(statement, "for")
+    every = span_behind(statement, "every")
+    lasting = span_behind(statement, "for")
     first = span_behind(statement, "from", every)
     until = span_behind(statement, "until", TimeSpan(LASTING, LASTING)).most
     if not 0 < lasting.least <= lasting.most <= every.least:

@@ -68,13 +68,13 @@ class NetInside:
         self.begun = time.monotonic()
         self.lines = HostLines()
         self.cgroups, self.waits = Cgroups(), Waits()
-        hosts = [*self.rooms.network] if self.options.control else list(dict.fromkeys(act.host for act in order.made.acts))
+        hosts = [*self.rooms.network] if self.options.control else list(dict.fromkeys(act.host for act in order.net_plan.acts))
         self.linked = {name: cgroup for name in hosts for cgroup in [self.cgroups.of(name)] if cgroup}  # whose acts are the links'
         self.descriptors = {name: [cgroup.descriptors[file] for file in OF_LINKS] for name, cgroup in self.linked.items()}
         self.links_plan = LinksPlan(order, self.rooms.ends, self.descriptors)
         self.is_of_links = self.links_plan.is_of_links
         ticker = None if is_simulated() else Ticker(self.look_at_waits)
-        self.acts = Acts(order.made.acts, self.lines, self.act, self.is_of_links, self.has_nothing, ticker)
+        self.acts = Acts(order.net_plan.acts, self.lines, self.act, self.is_of_links, self.has_nothing, ticker)
         self.main_moment: Optional[int] = None  # ns, of the links
 
     def started_links(self) -> Link:
@@ -307,7 +307,7 @@ class NetInside:
         if names := list(self.acts.stopped()):
             self.lines.ask("line remark ending")
         for name in names:
-            act = PlannedAct(self.order.made.moment("0s"), "cont", name)
+            act = PlannedAct(self.order.net_plan.moment("0s"), "cont", name)
             self.lines.ask(f"line {act_line(act)}") if self.is_of_links(act) else self.act(act)
         endings = self.processes.endings(self.started, self.begun, self.order.end_wait)
         self.cgroups.remove()

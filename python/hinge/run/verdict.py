@@ -14,7 +14,7 @@ from hinge.run.system import is_simulated
 
 if TYPE_CHECKING:
     from hinge.events.kinds import TimedEvent
-    from hinge.net.acts import Done
+    from hinge.net.acts import FinishedAct
 
 WITHOUT_LIMIT = 20.0  # ms
 MOST_TOLD = 4  # hosts of which it is told
@@ -22,7 +22,7 @@ NOTHING_RAN = "changed nothing, as the host's command had ended by itself"
 PART = 0.01  # of the time: less is told of no packet either
 
 
-def late_acts(acts: Sequence[Done], main: Optional[int], limit: float) -> Iterator[str]:
+def late_acts(acts: Sequence[FinishedAct], main: Optional[int], limit: float) -> Iterator[str]:
     """Yields the acts that came later than the limit (ms) after their requested moments, or in another order."""
     late = [((one.moment - one.act.moment.ns - (main or 0) * one.act.moment.of_main) / 1e6, one.act) for one in acts]
     over = [one for one in late if one[0] > limit]
