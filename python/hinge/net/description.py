@@ -14,15 +14,15 @@ from hinge.net.statements import UNKNOWN_HOST, Statement, statements
 from hinge.run.words import Wrong, bytes_of_mtu, placed
 
 NAME = re.compile(r"[A-Za-z][A-Za-z0-9-]{0,62}", re.ASCII)
-TAKEN = {"localhost", "from", *WORDS_OF_EVENTS}
-MOST_NAMED = 10  # hosts of a refusal
-KEYWORDS = {"at", "of", "every", "for", "until", "to", "and", *TAKEN}  # for which nobody means a host
+TAKEN = {"localhost", "from", *WORDS_OF_EVENTS}  # words that can't be names of hosts
+MOST_NAMED = 10  # the hosts that a refusal lists
+KEYWORDS = {"at", "of", "every", "for", "until", "to", "and", *TAKEN}  # words that are hardly meant as names of hosts
 HOST, MAIN, ROUTER = "host NAME [COMMAND]", "main NAME [COMMAND]", "router NAME [COMMAND]"
 MTU, ROUTES = "mtu A B [N] BYTES", "routes none"
 LINK, SWITCH, WAIT = "link A B LINK [/ LINK]", "switch NAME A B .. LINK [/ LINK]", "wait NAME port N [TIME] [optional]"
-PATIENCE = 30.0  # s for which a port is waited for
-MOST_LINKS = 32767  # each has two pipes of 65,535
-MOST_PORTS = 254  # hosts at switches that are joined, as addresses of IPv4 end in 1 to 254
+PATIENCE = 30.0  # s to wait for a port, unless its line names a time
+MOST_LINKS = 32767  # as each link needs two of 65,535 pipes
+MOST_PORTS = 254  # the hosts in a segment, as IPv4 addresses end in 1 to 254
 
 
 @dataclass
@@ -32,7 +32,7 @@ class NetHost:
     name: str
     forwards: bool = False
     is_switch: bool = False
-    command: str = ""  # of the shell
+    command: str = ""  # a command line for the shell
     disks: list[Disk] = field(default_factory=list)
 
 
@@ -43,7 +43,7 @@ class NetLink:
     ends: tuple[str, str]
     ways: tuple[str, str]
     statement: Statement
-    mtu: Optional[int] = None  # of its interfaces
+    mtu: Optional[int] = None  # the MTU of its interfaces, if a line `mtu` sets it
 
     def other(self, name: str) -> str:
         """Returns the end of the link that isn't this host."""
@@ -53,8 +53,8 @@ class NetLink:
 class Port(NamedTuple):
     """Describes the host's end where a link connects a host with a switch. Switches that are joined by links form a segment."""
 
-    segment: int  # the first link of the switches that are joined, by its place from 0
-    number: int  # of the host's end among those of the segment, from 1
+    segment: int  # the number of the segment's first link, from 0
+    number: int  # the place of the host's end among the ends in the segment, from 1
 
 
 @dataclass(frozen=True)
@@ -63,8 +63,8 @@ class Wait:
 
     host: str
     port: int
-    lasting: float  # s
-    is_optional: bool  # whether the net goes on where nothing listens
+    lasting: float  # the longest wait, in s
+    is_optional: bool  # whether the net goes on if nothing listens
 
 
 @dataclass
@@ -74,10 +74,10 @@ class Description:
     hosts: dict[str, NetHost] = field(default_factory=dict)
     links: list[NetLink] = field(default_factory=list)
     waits: list[Wait] = field(default_factory=list)
-    of_links: list[Statement] = field(default_factory=list)  # what is said of links, for plan.py
-    main: Optional[str] = None
-    has_shell: bool = False  # which is the main command
-    has_routes: bool = True  # to hosts that aren't neighbours
+    of_links: list[Statement] = field(default_factory=list)  # the lines that net_plan.py reads
+    main: Optional[str] = None  # the main command's host
+    has_shell: bool = False  # whether a shell is the main command
+    has_routes: bool = True  # whether hosts get routes to hosts that aren't neighbours
     links_of: dict[str, dict[str, list[int]]] = field(default_factory=dict)  # the numbers of each host's links, by the other end
 
     def between(self, statement: Statement, form: str) -> tuple[int, bool]:
@@ -85,30 +85,37 @@ class Description:
 
         Returns the link's number, and whether A is the second end. Wrong: there is no such link.
         """
-        one, two = self.host(statement, form), self.host(statement, form)
-        result = self.links_of.get(one, {}).get(two, [])
+        one = self.host(statement, form)
+        two = self.host(statement, form)
+        numbers = self.links_of.get(one, {}).get(two, [])
         place = int(statement.take(form)) if is_number(statement.peek()) else 1
-        if not 1 <= place <= len(result):
-            raise statement.wrong(
-                f"{one} {two}", f"there is no link {place} between them" if result else "there is no link between them"
-            )
-        return result[place - 1], self.links[result[place - 1]].ends[0] != one
+        if not numbers:
+            raise statement.wrong(f"{one} {two}", "there is no link between them")
+        if not 1 <= place <= len(numbers):
+            raise statement.wrong(f"{one} {two}", f"there is no link {place} between them")
+        number = numbers[place - 1]
+        return number, self.links[number].ends[0] != one
 
     def ways_between(self, host: str, others: tuple[str, ...], side: str = "") -> tuple[int, ...]:
         """Returns the way numbers for a host's links, or only for the links to some hosts. `side` restricts them to the ways from
         the host (`up`) or to the host (`down`)."""
         table = self.links_of.get(host, {})
-        numbers = sorted(number for other in {*others} or table for number in table.get(other, ()))
-        ways = (2 * number + way for number in numbers for way in (0, 1))
-        return tuple(way for way in ways if side != ("down" if self.links[way // 2].ends[way % 2] == host else "up"))
+        ways = list[int]()
+        for number in sorted(number for other in {*others} or table for number in table.get(other, ())):
+            for end in (0, 1):
+                way_side = "up" if self.links[number].ends[end] == host else "down"
+                if side in ("", way_side):
+                    ways.append(2 * number + end)
+        return tuple(ways)
 
     def host(self, statement: Statement, form: str) -> str:
         """Reads and returns the name of a host or switch. Wrong: the net has no such host; the message suggests what to write."""
         name = statement.take(form)
         if name not in self.hosts:
-            may_be = statement.number > 0 and statement.word != "at" and NAME.fullmatch(name) and name not in KEYWORDS
-            hosts = f"it has {', '.join(list(self.hosts)[:MOST_NAMED])}"
-            raise statement.unknown(name, self.hosts, UNKNOWN_HOST, f"write host {name}" if may_be else hosts)
+            hint = f"it has {', '.join(list(self.hosts)[:MOST_NAMED])}"
+            if statement.number > 0 and statement.word != "at" and NAME.fullmatch(name) and name not in KEYWORDS:
+                hint = f"write host {name}"
+            raise statement.unknown(name, self.hosts, UNKNOWN_HOST, hint)
         return name
 
     def is_room(self, name: str) -> bool:
@@ -158,12 +165,14 @@ class Description:
         self.links.append(NetLink((one, two), statement.both_ways(words), statement))
 
     def link(self, statement: Statement) -> None:
-        one, two = self.host(statement, LINK), self.host(statement, LINK)
+        one = self.host(statement, LINK)
+        two = self.host(statement, LINK)
         self.add_link(statement, one, two, statement.rest)
 
     def switch(self, statement: Statement) -> None:
         """Reads a line `switch`, which adds a link from each named host to the switch."""
-        name, members = statement.take(SWITCH), []
+        name = statement.take(SWITCH)
+        members = list[str]()
         while statement.peek() in self.hosts:
             members.append(statement.take(SWITCH))
         if not members:
@@ -201,7 +210,9 @@ class Description:
         if word != "port" or not is_number(port) or not 1 <= int(port) <= 65535:
             raise statement.wrong(f"{word} {port}", f"no port from 1 to 65535: {WAIT}")
         lasting = statement.take_time(WAIT) / 1e9 if statement.peek() not in ("", "optional") else PATIENCE
-        is_optional = statement.peek() == "optional" and bool(statement.take(WAIT))
+        is_optional = statement.peek() == "optional"
+        if is_optional:
+            statement.take(WAIT)
         statement.done(WAIT)
         self.waits.append(Wait(host, int(port), lasting, is_optional))
 
@@ -211,12 +222,14 @@ class Description:
     def declare_switch(self, statement: Statement) -> None:
         rest = statement.rest
         host = self.declare(statement, SWITCH, forwards=True)
-        host.command, host.is_switch = "", True
-        statement.rest = rest
+        host.command = ""
+        host.is_switch = True
+        statement.rest = rest  # for `switch`, which reads the line again when all hosts are known
 
     def ways(self) -> list[str]:
         """Returns the names of all ways: `A > B`, or `A > B 2` on the second link between both."""
-        names, counts = list[str](), Counter[str]()
+        names = list[str]()
+        counts = Counter[str]()
         for name in (" > ".join(ends) for link in self.links for ends in (link.ends, link.ends[::-1])):
             counts[name] += 1
             names.append(f"{name} {counts[name]}" if counts[name] > 1 else name)
@@ -226,9 +239,11 @@ class Description:
         """Returns the numbers (from 0) of the ways that end at each switch."""
         table: dict[str, list[int]] = {name: [] for name, host in self.hosts.items() if host.is_switch}
         for number, link in enumerate(self.links):
-            for end in (0, 1):
-                if link.ends[1 - end] in table:
-                    table[link.ends[1 - end]].append(2 * number + end)
+            start, end = link.ends
+            if end in table:
+                table[end].append(2 * number)
+            if start in table:
+                table[start].append(2 * number + 1)
         return table
 
     def joined_switches(self) -> dict[str, set[str]]:
@@ -254,10 +269,12 @@ class Description:
             for name in link.ends:
                 switch = link.other(name)
                 if switch in union and name not in union:
-                    before = last.get(min(union[switch]), Port(number, 0))
-                    if before.number == MOST_PORTS:
+                    segment = min(union[switch])
+                    port = last.get(segment, Port(number, 0))
+                    if port.number == MOST_PORTS:
                         raise link.statement.wrong(name, f"switches that are joined have {MOST_PORTS} hosts at most")
-                    table[number, name] = last[min(union[switch])] = before._replace(number=before.number + 1)
+                    last[segment] = port._replace(number=port.number + 1)
+                    table[number, name] = last[segment]
         return table
 
 
@@ -288,7 +305,8 @@ LINE_WORDS = sorted({word for kinds in FOLLOWS for word in kinds})
 def read_description(path: str) -> Description:
     """Reads a net's file, in which a line may use names that a later line defines; returns the description. Wrong: a line is
     wrong, or there is no link."""
-    net, lines = Description(), list[Statement]()
+    net = Description()
+    lines = list[Statement]()
     for statement in statements(path):
         if statement.word not in LINE_WORDS:
             raise statement.unknown(statement.word, LINE_WORDS, "not a word of a net", f"write one of {', '.join(LINE_WORDS)}")
@@ -299,5 +317,5 @@ def read_description(path: str) -> Description:
                 kinds[statement.word](net, statement)
     if not net.links:
         raise Wrong(f"{path}: no link: {LINK}")
-    net.ports()  # where there can be none, that is told
+    net.ports()  # for its refusals
     return net

@@ -36,7 +36,9 @@ def read_disk(statement: Statement) -> Disk:
     path = os.path.abspath(os.path.join(os.path.dirname(statement.path), statement.take(DISK)))
     word = statement.take(DISK) if statement.peek() else f"{USUAL}M"
     match = re.fullmatch(r"(\d{1,5})([MG])", word, re.ASCII)
-    size = int(match[1]) << {"M": 0, "G": 10}[match[2]] if match else 0
+    size = int(match[1]) if match else 0  # MiB
+    if match and match[2] == "G":
+        size <<= 10
     if not LEAST <= size <= MOST:
         raise statement.wrong(word, f"no size from {LEAST}M to {MOST >> 10}G: {DISK}")
     statement.done(DISK)
@@ -60,7 +62,8 @@ def opened_mounts() -> list[int]:
 
 def enter_mounts(mounts: list[int]) -> None:
     """Moves this process into a mount namespace, and there into the folder with the path of its working directory."""
-    folder, (root, namespace) = os.getcwd(), mounts
+    folder = os.getcwd()
+    root, namespace = mounts
     join(namespace, NEWNS)
     os.fchdir(root)
     os.chroot(".")

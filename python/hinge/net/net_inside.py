@@ -17,7 +17,7 @@ from hinge.border.programs import can_be_read
 from hinge.command import say
 from hinge.events.kinds import PlannedAct
 from hinge.net.acts import Acts, GroupProcesses, HostProcesses, act_line, sees_own_processes
-from hinge.run.cgroups import OF_LINKS, Cgroups
+from hinge.run.cgroups import OF_LINKS, Cgroup, Cgroups
 from hinge.net.clocks import clock_number, set_clock, take_clock
 from hinge.net.description import Wait
 from hinge.net.disks import Disks
@@ -42,8 +42,8 @@ LISTEN_POLL = 0.01  # s
 BEGIN_PATIENCE = 60.0  # s, within which all commands begin
 WAITS = "/proc/waits"  # of a simulated machine
 NOBODY = 0  # no process
-BEFORE = 0.1  # s before a kill, within which it may have ended a command
-PRIORITY = 8  # behind the links and the writer of their transcript
+BEFORE = 0.1  # s; a command that ended at most so long before a kill counts as killed
+PRIORITY = 8  # of real time, below the priorities of the links and of their transcript's writer
 NO_PRIORITY = "the links don't come before other programs, as the system doesn't allow it (as root, or with `ulimit -r 10`)"
 
 
@@ -57,19 +57,19 @@ class NetInside:
         self.own_users = own_users
         self.page = Page(2 * len(self.net.links))
         self.processes = Processes(WATCHED if self.net.main or self.options.shell else WATCHED | {signal.SIGINT})
-        self.network = this_network()  # of no host
+        self.network = this_network()  # the network in which the links' process runs, apart from all hosts
         self.rooms = NetRooms(self.net, self.options.mtu)
         if outside and order.outside:
             self.rooms.lead_out(outside, order.outside)
         self.disks = Disks(self.net.hosts.values())
         self.started: dict[str, int] = {}
-        self.silent: list[str] = []  # of the ports that were waited for in vain, and without which the net goes on
-        self.missing = ""  # the one without which it ends
+        self.silent: list[str] = []  # messages about optional ports at which nothing listens
+        self.missing = ""  # the message about a required port at which nothing listens, so that the net ends
         self.begun = time.monotonic()
         self.lines = HostLines()
-        self.cgroups, self.waits = Cgroups(), Waits()
-        hosts = [*self.rooms.network] if self.options.control else list(dict.fromkeys(act.host for act in order.net_plan.acts))
-        self.linked = {name: cgroup for name in hosts for cgroup in [self.cgroups.of(name)] if cgroup}  # whose acts are the links'
+        self.cgroups = Cgroups()
+        self.waits = Waits()
+        self.linked = self.linked_hosts()
         self.descriptors = {name: [cgroup.descriptors[file] for file in OF_LINKS] for name, cgroup in self.linked.items()}
         self.links_plan = LinksPlan(order, self.rooms.ends, self.descriptors)
         self.is_of_links = self.links_plan.is_of_links
@@ -77,12 +77,20 @@ class NetInside:
         self.acts = Acts(order.net_plan.acts, self.lines, self.act, self.is_of_links, self.has_nothing, ticker)
         self.main_moment: Optional[int] = None  # ns, of the links
 
+    def linked_hosts(self) -> dict[str, Cgroup]:
+        """Returns the cgroups of hosts on which acts may happen. The links carry out the acts on hosts with cgroups."""
+        hosts = dict.fromkeys(self.rooms.network if self.options.control else (act.host for act in self.order.net_plan.acts))
+        cgroups = {name: self.cgroups.of(name) for name in hosts}
+        return {name: cgroup for name, cgroup in cgroups.items() if cgroup}
+
     def started_links(self) -> Link:
         """Starts and returns the process that emulates all links. Acts on hosts don't affect this process."""
         enter(self.network)
         descriptors = [*self.rooms.descriptors(), *chain(*self.descriptors.values())]
-        more = descriptors, self.links_plan.text(), self.order.mask, opened_control(self), self.lines
-        return Link(self.processes, self.page, ["tun", *map(str, self.rooms.interfaces)], *more)
+        words = ["tun", *map(str, self.rooms.interfaces)]
+        text = self.links_plan.text()
+        control = opened_control(self)
+        return Link(self.processes, self.page, words, descriptors, text, self.order.mask, control, self.lines)
 
     def look_at_waits(self, _: float) -> None:
         """Notes for how long the processes of running commands have waited for a processor."""
@@ -98,20 +106,27 @@ class NetInside:
         completes the act later, or None if nothing remains. Wrong: hosts know no such act."""
         if self.is_of_links(act):
             return partial(self.see_gone, act.host) if act.word == "kill" else None
-        clock = clock_number(act.host, self.net.hosts)
         on_host = self.on_host(act.host)
-        linked = self.linked.get(act.host)
-        works = dict.fromkeys(("kill", "crash", "restart"), linked.empty if linked else on_host.kill)
-        works |= {"stop": on_host.stop, "cont": on_host.cont, "skew": partial(set_clock, clock, act.more)}
-        if act.word not in works:
+        cgroup = self.linked.get(act.host)
+        if act.word in ("kill", "crash", "restart"):
+            if cgroup:
+                cgroup.empty()
+            else:
+                on_host.kill()
+        elif act.word == "stop":
+            on_host.stop()
+        elif act.word == "cont":
+            on_host.cont()
+        elif act.word == "skew":
+            set_clock(clock_number(act.host, self.net.hosts), act.more)
+        else:
             raise Wrong(f"{act.word}: no act on a host")
-        works[act.word]()
         self.processes.reap()
         if act.word == "crash":
             self.disks.ask("lose", act.host)
-        return self.begun_again(act.host) if act.word == "restart" else None
+        return self.begin_again(act.host) if act.word == "restart" else None
 
-    def begun_again(self, host: str) -> Callable[[], None]:
+    def begin_again(self, host: str) -> Callable[[], None]:
         """Starts a host's command again. Returns a function that waits until the command is on the host, where a kill finds the
         command. The cgroup of a stopped host freezes a command that enters, so the wait then ends when the command is in the
         cgroup."""
@@ -120,19 +135,22 @@ class NetInside:
         os.close(entry)
         cgroup = self.linked.get(host) if self.acts.goes_on(host, "cont") else None
 
-        def see_there() -> None:
-            while not (cgroup and not cgroup.has_nothing()) and not can_be_read(there, LISTEN_POLL):
-                pass
+        def is_there() -> bool:
+            return (cgroup is not None and not cgroup.has_nothing()) or can_be_read(there, LISTEN_POLL)
+
+        def wait_until_there() -> None:
+            while not is_there():
+                pass  # as is_there waits
             os.close(there)
             self.acts.note_later(host, self.lines.ask("moment").moment)
 
-        return see_there
+        return wait_until_there
 
     def see_gone(self, host: str) -> None:
         """Waits until all processes of a killed host have ended. If a late restart came after the kill's moment, kills the new
         command too."""
-        before, kill = [0, *(one.moment for one in self.acts.done if one.act.host == host)][-2:]
-        if before > kill:
+        moments = [finished.moment for finished in self.acts.done if finished.act.host == host]
+        if len(moments) > 1 and moments[-2] > moments[-1]:  # the restart came after the kill
             self.linked[host].empty()
         self.linked[host].is_empty()
         self.processes.reap()
@@ -155,7 +173,9 @@ class NetInside:
     def begin(self, name: str, entry: Optional[int] = None) -> None:
         """Starts a host's command; each command except the main command gets a new process group. The new process closes the
         descriptor `entry` when the process is on the host."""
-        is_main, is_first, cgroup = name == self.net.main, name not in self.started, self.cgroups.of(name)
+        is_main = name == self.net.main
+        is_first = name not in self.started
+        cgroup = self.cgroups.of(name)
         is_stopped = self.acts.goes_on(name, "cont")
 
         def enter_host() -> None:
@@ -169,22 +189,24 @@ class NetInside:
                     make_terminals()
             if self.options.logs:
                 log = opened_log(os.path.join(self.options.logs, f"{name}.log"), is_first)
-                os.dup2(log, 1), os.dup2(log, 2)
+                os.dup2(log, 1)
+                os.dup2(log, 2)
             self.enter(name)
             if entry is not None:
                 os.close(entry)
             if is_stopped and not cgroup:
                 os.kill(os.getpid(), signal.SIGSTOP)
 
-        more = self.options.command if is_main else []
-        self.started[name] = start(["sh", "-c", self.net.hosts[name].command, *more], self.order.mask, enter_host, self.own_users)
+        arguments = self.options.command if is_main else []
+        words = ["sh", "-c", self.net.hosts[name].command, *arguments]
+        self.started[name] = start(words, self.order.mask, enter_host, self.own_users)
         if is_stopped and not cgroup:
             os.waitid(os.P_PID, self.started[name], os.WSTOPPED | os.WEXITED | os.WNOWAIT)
 
     def begin_commands(self) -> Optional[int]:
         """Starts all commands except the main command, and waits until each has begun; returns the signal that ends the wait
         early, if any. The commands enter their cgroups one by one, and a due act would wait for all these entries."""
-        read_end, write_end = os.pipe()  # which each holds until it begins
+        read_end, write_end = os.pipe()  # each process holds the write end until its command begins
         os.set_blocking(read_end, False)
         for name, host in self.net.hosts.items():
             if host.command and name != self.net.main:
@@ -253,11 +275,13 @@ class NetInside:
             return status_without(self.missing)
         main = self.begin_main()
         if link.control:
-            link.control.serve()  # a thread, behind which this one starts no process
-        while not came and link.process not in self.processes.ended and (rest := self.waited_for(main)):
-            try_to_write(WAITS, "1" if self.acts.pending else "0")  # what waits for an act isn't for ever without life
+            link.control.serve()  # starts a thread, and this thread starts no process from then on
+        rest = self.waited_for(main)
+        while rest and not came and link.process not in self.processes.ended:
+            try_to_write(WAITS, "1" if self.acts.pending else "0")  # 1: an act is due later, so an idle machine isn't stuck
             came = self.processes.wait(rest[0], self.acts.left(), self.acts, link.process)
             self.acts.tick()
+            rest = self.waited_for(main)
         if (self.options.stay or self.options.while_open is not None) and not came:
             came = self.processes.wait(link.process, ticker=self.acts)
         if main in self.processes.ended:
@@ -271,7 +295,9 @@ class NetInside:
         """Returns the processes that the net still waits for, or NOBODY if a command will only be started again later."""
         processes = [*self.started.values()] if main is None else [main]
         rest = [process for process in processes if process not in self.processes.ended]
-        return rest or [NOBODY] * (main is None and self.acts.awaited())
+        if not rest and main is None and self.acts.awaited():
+            return [NOBODY]
+        return rest
 
     def was_killed(self, name: str) -> bool:
         """Returns whether an act ended a host's command. A command that ended long before the act wasn't killed."""
@@ -281,9 +307,11 @@ class NetInside:
     def run(self) -> int:
         """Runs the net and reports the result; returns the status."""
         link = self.started_links()
-        if (fault := link.failed()) is not None:
+        fault = link.failed()
+        if fault is not None:
             return fault
-        if (realtime := self.page.head("realtime")) == NOT_ALLOWED:
+        realtime = self.page.head("realtime")
+        if realtime == NOT_ALLOWED:
             say(NO_PRIORITY)
         if realtime == HAS_IT and not is_simulated():
             with suppress(OSError):  # so that acts aren't late
@@ -304,12 +332,16 @@ class NetInside:
             self.look_at_waits(0.0)
         self.acts.pending.clear()
         self.acts.tick()
-        if names := list(self.acts.stopped()):
+        names = list(self.acts.stopped())
+        if names:
             self.lines.ask("line remark ending")
         for name in names:
             act = PlannedAct(self.order.net_plan.moment("0s"), "cont", name)
-            self.lines.ask(f"line {act_line(act)}") if self.is_of_links(act) else self.act(act)
+            if self.is_of_links(act):
+                self.lines.ask(f"line {act_line(act)}")
+            else:
+                self.act(act)
         endings = self.processes.endings(self.started, self.begun, self.order.end_wait)
         self.cgroups.remove()
-        victims = [name for name, one in endings.items() if one.by == "itself" and self.was_killed(name)]
+        victims = [name for name, ending in endings.items() if ending.by == "itself" and self.was_killed(name)]
         return endings | {name: endings[name]._replace(by="kill") for name in victims}

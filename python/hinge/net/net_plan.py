@@ -48,14 +48,18 @@ class NetPlan:
 
     def __init__(self, net: Description, longest: int, seed: int = 0) -> None:
         """`longest` is the longest packet's length in bytes. `seed` determines each nemesis's faults."""
-        self.net, self.plan = net, Plan(longest, len(net.links))
-        self.queues: dict[tuple[int, int], int] = {}
-        self.places: list[tuple[bool, int, str, Statement]] = []  # base, moment, line, and where it was said
-        self.events: list[TimedEvent] = []  # of all lines `at`
-        self.lines_at: list[Statement] = []  # where each was said
+        self.net = net
+        self.plan = Plan(longest, len(net.links))
+        self.queues: dict[tuple[int, int], int] = {}  # the net's number of each queue, by the link and its own number
+        # For each configuration line: whether its moment counts from the main command, the moment, the line, and its statement.
+        self.places: list[tuple[bool, int, str, Statement]] = []
+        self.events: list[TimedEvent] = []  # from lines `at` and `nemesis`
+        self.lines_at: list[Statement] = []  # the statement of each of these events
         self.acts: list[PlannedAct] = []
         self.host_faults = count(1)
-        self.seed, self.draws, self.nemeses = seed, Budget(MOST_DRAWS, "random numbers"), count()
+        self.seed = seed
+        self.draws = Budget(MOST_DRAWS, "random numbers")
+        self.nemeses = count()
         self.moments = Draw(seed, OF_MOMENTS, self.draws)
         self.rest = Budget(MOST_SAID, "events of links and hosts")
         for number, link in enumerate(net.links):
@@ -84,12 +88,12 @@ class NetPlan:
     @property
     def drawn(self) -> list[str]:
         """Returns the `at` lines that the seed drew."""
-        return [str(one) for one in self.events if one.is_drawn]
+        return [str(timed) for timed in self.events if timed.is_drawn]
 
     def unruled(self) -> list[str]:
         """Returns the lines that configure queues to which no rule sends packets."""
         lines = {target_of(line): statement.text for _, _, line, statement in self.places}
-        return [f"`{lines[one]}`" for one in self.plan.unruled()]
+        return [f"`{lines[queue]}`" for queue in self.plan.unruled()]
 
     def own(self, link: int, is_back: bool, line: str) -> str:
         """Converts a link's configuration line to the net's numbers for pipes and queues. The line's pipe 1 leads from the host
@@ -111,16 +115,20 @@ class NetPlan:
         """Reads a line `loss`: a loss model for a link."""
         number, is_back = self.net.between(statement, LOSS)
         first, colon, rest = statement.rest.partition(":")
-        self.plan.loss(BACK[first] + colon + rest if is_back and first in BACK else statement.rest, number)
+        if is_back:
+            first = BACK.get(first, first)
+        self.plan.loss(first + colon + rest, number)
 
     def map(self, statement: Statement) -> None:
         """Reads a line `map`: a rule that sends some packets on a link to a pipe or queue."""
         number, is_back = self.net.between(statement, MAP)
-        rest, arrow, right = statement.rest.partition("=>")
-        words = [BACK.get(word, word) if is_back else word for word in rest.split()]
-        target = self.own(number, is_back, right)
-        for rest in dict.fromkeys((self.addressed(words, 0), self.addressed(words, 1))):
-            self.plan.rule(f"{rest} {arrow} {target}", number, statement.text)
+        test, arrow, target = statement.rest.partition("=>")
+        words = test.split()
+        if is_back:
+            words = [BACK.get(word, word) for word in words]
+        target = self.own(number, is_back, target)
+        for test in dict.fromkeys((self.addressed(words, 0), self.addressed(words, 1))):
+            self.plan.rule(f"{test} {arrow} {target}", number, statement.text)
 
     def addressed(self, words: list[str], kind: int) -> str:
         """Replaces host names in a rule with addresses: IPv4 if `kind` is 0, IPv6 if `kind` is 1."""
@@ -169,15 +177,15 @@ class NetPlan:
 
     def nemesis(self, statement: Statement) -> None:
         """Reads a line `nemesis`, and adds the events that the seed draws."""
-        read = read_nemesis(self.net, statement)
+        nemesis = read_nemesis(self.net, statement)
         statement.done(NEMESIS)
-        for moment, event in drawn_events(self.net, read, Draw(self.seed, next(self.nemeses), self.draws)):
+        for moment, event in drawn_events(self.net, nemesis, Draw(self.seed, next(self.nemeses), self.draws)):
             self.add(TimedEvent(Moment(moment, self.has_main, ""), event, True), statement)
 
     def add(self, timed: TimedEvent, statement: Statement) -> None:
         """Adds an event, which a statement of the net's file requests, to the plan."""
         moment, event, _ = timed
-        self.rest.spend(len({of // 2 if isinstance(of, int) else of for of in event.of}))
+        self.rest.spend(len({target // 2 if isinstance(target, int) else target for target in event.of}))  # links, or a host
         self.events.append(timed._replace(event=kept(event)))
         self.lines_at.append(statement)
         if isinstance(event, HostAct):
@@ -187,37 +195,40 @@ class NetPlan:
         new = self.happenings(event, moment.ns, changes)
         changes.add(new)
         if isinstance(event, (NewWords, NewLine)):
-            self.places += [(moment.of_main, moment.ns, one.line, statement) for one in new if isinstance(one, Change)]
+            self.places += [(moment.of_main, moment.ns, change.line, statement) for change in new if isinstance(change, Change)]
 
     def happenings(self, event: Event, ns: int, changes: Changes) -> list[Happening]:
         """Returns what the links have to do for an event at a moment; `changes` numbers the cuts. Wrong: the links can't do it."""
         if isinstance(event, NewLine):
-            self.plan.take(line := self.own(event.ways[0] // 2, event.ways[0] > event.ways[1], event.line))
+            line = self.own(event.ways[0] // 2, event.ways[0] > event.ways[1], event.line)
+            self.plan.take(line)
             return [Change(ns, line)]
         return self.plan.happenings(event, ns, changes)
 
     def acts_of(self, event: HostAct, moment: Moment) -> list[PlannedAct]:
         """Returns the acts for an event on a host: its begin, and its end if the event has a length."""
         fault = next(self.host_faults) if event.ending else 0
-        start = PlannedAct(moment, event.word, event.host, fault, event.skew)
-        end = moment._replace(ns=moment.ns + event.length)
-        return [
-            start,
-            *([PlannedAct(end, event.ending, event.host, fault)] if event.ending != "" and event.length < LAST_MOMENT else []),
-        ]
+        acts = [PlannedAct(moment, event.word, event.host, fault, event.skew)]
+        if event.ending and event.length < LAST_MOMENT:
+            end = moment._replace(ns=moment.ns + event.length)
+            acts.append(PlannedAct(end, event.ending, event.host, fault))
+        return acts
 
     def judge_ends(self) -> None:
         """Checks that each heal and cont ends a fault. Wrong: no cut goes on when a heal comes, or no stop when a cont comes."""
         ends = {end for _, end in fault_ends(self.events)}
-        for place, (one, statement) in enumerate(zip(self.events, self.lines_at)):
-            if place not in ends and (word := WORDS.get(one.event.word)) and word.none:
-                raise Wrong(f"{statement.place}: {one.event.word!r}: {word.none} goes on then")
+        for place, (timed, statement) in enumerate(zip(self.events, self.lines_at)):
+            word = WORDS.get(timed.event.word)
+            if word and word.none and place not in ends:
+                raise Wrong(f"{statement.place}: {timed.event.word!r}: {word.none} goes on then")
 
     def judge(self) -> None:
         """Makes the emulator check all configuration lines in order, before anything starts. Unobeyed: the emulator rejects a
         line."""
-        sequence = sorted(sorted(self.places, key=itemgetter(1)), key=itemgetter(0))  # by keys of which none is made
-        refuse_long((one.place for *_, one in sequence), lines := [line for _, _, line, _ in sequence])
+        by_moment = sorted(self.places, key=itemgetter(1))
+        sequence = sorted(by_moment, key=itemgetter(0))  # in two steps, because keys with two values would need memory
+        lines = [line for _, _, line, _ in sequence]
+        refuse_long((statement.place for *_, statement in sequence), lines)
         for verdict in judged_lines(lines):
             _, _, line, statement = sequence[verdict.line - 1]
             where = f"{statement.path} line {statement.number}"

@@ -45,18 +45,25 @@ class Statement:
         `otherwise`."""
         near = difflib.get_close_matches(word, items, 1) if not word[:1].isdigit() else []
         line = self.meant()
-        right = f"write {line}" if line else f"did you mean {near[0]!r}?" if near else otherwise
-        return self.wrong(word, f"{what}; {right}" if right else what)
+        hint = otherwise
+        if line:
+            hint = f"write {line}"
+        elif near:
+            hint = f"did you mean {near[0]!r}?"
+        return self.wrong(word, f"{what}; {hint}" if hint else what)
 
     def meant(self) -> str:
         """Returns the line that was probably meant, or an empty text. A line for `hinge change` contains no moment."""
-        return line_meant(self.text) if self.number else line_meant(f"at 0s {self.text[3:]}").replace("at 0s ", "")
+        if self.number:
+            return line_meant(self.text)
+        return line_meant(f"at 0s {self.text[3:]}").replace("at 0s ", "")
 
     def refuse_twice(self, names: Sequence[str]) -> None:
         """Checks host names. Wrong: the line names a host twice."""
         second = next((name for place, name in enumerate(names) if name in names[:place]), None)
         if second is not None:
-            before, _, behind = f"{self.text} ".removeprefix("" if self.number else "at ").rpartition(f" {second} ")
+            text = self.text if self.number else self.text.removeprefix("at ")
+            before, _, behind = f"{text} ".rpartition(f" {second} ")
             raise self.wrong(second, f"it stands twice; write {before} {behind}".rstrip())
 
     def peek(self) -> str:
@@ -78,7 +85,8 @@ class Statement:
             with placed(self.place):
                 return length_of(word)
         except Wrong:
-            if line := self.meant():
+            line = self.meant()
+            if line:
                 raise self.wrong(word, f"not a duration; write {line}") from None
             raise
 
@@ -101,17 +109,19 @@ class Statement:
 
 
 TAKES_A_COMMAND = ("host", "main", "router")
-OFTEN = ("link", "nemesis", "host", "main", "router", "switch")  # a second line is another one, or is refused by its name
-SUBJECTS = {"mtu": -1, "trace": -1, "wait": 4, "disk": 3, "faults": 1, "routes": 1}  # the words that a second line has too
+# The words of lines that may be repeated, or whose repetition is refused elsewhere because of the host's name.
+OFTEN = ("link", "nemesis", "host", "main", "router", "switch")
+# The number of words, from the first, that two lines may not share (-1: all words but the last).
+SUBJECTS = {"mtu": -1, "trace": -1, "wait": 4, "disk": 3, "faults": 1, "routes": 1}
 
 
 def statements(path: str) -> Iterator[Statement]:
     """Yields the statements in a net's file. Wrong: two lines say the same thing, such as a link's MTU."""
-    before = dict[str, Statement]()
+    firsts = dict[str, Statement]()
     for statement in all_statements(path):
         words = statement.text.split()
         subject = " ".join(words[: SUBJECTS.get(statement.word)])
-        first = before.setdefault(subject, statement)
+        first = firsts.setdefault(subject, statement)
         if first is not statement and statement.word not in OFTEN:
             raise statement.wrong(subject, f"line {first.number} says this already; leave one of them out")
         yield statement
@@ -120,14 +130,16 @@ def statements(path: str) -> Iterator[Statement]:
 def all_statements(path: str) -> Iterator[Statement]:
     """Yields the lines in a net's file, each joined with its continuation lines. The shell reads the comments in commands; other
     lines end at a comment. Wrong: a line is too long with its continuation lines."""
-    before, first = "", 0
+    continued = ""  # the lines so far of a line that continues
+    first = 0  # the number of its first line
     for number, line in enumerate(chain(read_lines(path), [""]), 1):
-        first = first if before else number
-        line = before + line.strip()
+        if not continued:
+            first = number
+        line = continued + line.strip()
         if len(line) > LONGEST:
             raise Wrong(f"{path} line {first}: with the lines behind it, it has more than {LONGEST:,} letters")
-        before = line[:-1].rstrip() + " " if line.endswith("\\") else ""
-        if before or line.startswith("#"):
+        continued = line[:-1].rstrip() + " " if line.endswith("\\") else ""
+        if continued or line.startswith("#"):
             continue
         text = line if first_word(line)[0] in TAKES_A_COMMAND else bare(line)
         if text:
