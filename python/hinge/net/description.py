@@ -5,11 +5,12 @@ from __future__ import annotations
 import re
 from collections import Counter
 from dataclasses import dataclass, field, replace
-from typing import Callable, NamedTuple, Optional
+from typing import Callable, Optional
 
 from hinge.arguments import is_number
 from hinge.events.forms import WORDS as WORDS_OF_EVENTS
-from hinge.net.disks import DISK, Disk, read_disk
+from hinge.net.disks import DISK, read_disk
+from hinge.net.parts import NetHost, NetLink, Port, Wait
 from hinge.net.statements import UNKNOWN_HOST, Statement, statements
 from hinge.run.words import Wrong, bytes_of_mtu, placed
 
@@ -23,48 +24,6 @@ LINK, SWITCH, WAIT = "link A B LINK [/ LINK]", "switch NAME A B .. LINK [/ LINK]
 PATIENCE = 30.0  # s to wait for a port, unless its line names a time
 MOST_LINKS = 32767  # as each link needs two of 65,535 pipes
 MOST_PORTS = 254  # the hosts in a segment, as IPv4 addresses end in 1 to 254
-
-
-@dataclass
-class NetHost:
-    """Describes a host, a router or a switch."""
-
-    name: str
-    forwards: bool = False
-    is_switch: bool = False
-    command: str = ""  # a command line for the shell
-    disks: list[Disk] = field(default_factory=list)
-
-
-@dataclass(frozen=True)
-class NetLink:
-    """Describes a link: the two ends, and the words for each way (from the first end, and back)."""
-
-    ends: tuple[str, str]
-    ways: tuple[str, str]
-    statement: Statement
-    mtu: Optional[int] = None  # the MTU of its interfaces, if a line `mtu` sets it
-
-    def other(self, name: str) -> str:
-        """Returns the end of the link that isn't this host."""
-        return self.ends[name == self.ends[0]]
-
-
-class Port(NamedTuple):
-    """Describes the host's end where a link connects a host with a switch. Switches that are joined by links form a segment."""
-
-    segment: int  # the number of the segment's first link, from 0
-    number: int  # the place of the host's end among the ends in the segment, from 1
-
-
-@dataclass(frozen=True)
-class Wait:
-    """Describes a port at which a host's command has to listen before the main command starts."""
-
-    host: str
-    port: int
-    lasting: float  # the longest wait, in s
-    is_optional: bool  # whether the net goes on if nothing listens
 
 
 @dataclass

@@ -14,7 +14,7 @@ from hinge.run.system import NEWNS, Missing, join, unshare
 from hinge.run.words import Wrong
 
 if TYPE_CHECKING:
-    from hinge.net.description import NetHost
+    from hinge.net.parts import NetHost
 
 DISK = "disk HOST PATH [SIZE]"
 PLACE = "/run/disks"  # of the simulated machine's first process

@@ -10,8 +10,9 @@ from hinge.command import NOT_FOUND, say
 from hinge.events.idle import idle_events
 from hinge.events.kinds import HostAct, TimedEvent
 from hinge.net.acts import FinishedAct
-from hinge.net.description import Description, Wait
+from hinge.net.description import Description
 from hinge.net.order import NetOrder
+from hinge.net.parts import Wait
 from hinge.run.hints import lacking
 from hinge.run.order import told_status
 from hinge.run.page import Counts

@@ -37,10 +37,10 @@ from hinge.run.words import Wrong
 from hingetulip_words.explained import explained
 
 __tracebackhide__ = True  # of a test that fails, pytest shows its own line
-POLL = 0.01  # s between looks whether it has begun
-PATIENCE = 600.0  # s until it has begun; the waits for ports are shorter
-END_PATIENCE = 60.0  # s until it has ended
-LAST_LINES = 10  # of what a host printed, where its command failed
+POLL = 0.01  # s between two checks whether the net has begun
+PATIENCE = 600.0  # s to wait for the net's replies; the waits for ports are shorter
+END_PATIENCE = 60.0  # s to wait for the net's end
+LAST_LINES = 10  # the lines of a host's output in an error message
 
 
 class CommandFailed(CalledProcessError):
@@ -48,7 +48,8 @@ class CommandFailed(CalledProcessError):
 
     def __str__(self) -> str:
         output = "\n".join(text.rstrip() for text in (self.stdout, self.stderr) if isinstance(text, str) and text.strip())
-        return lines(f"{self.cmd}: status {self.returncode}" + (f"\n{output}" if output else ""))
+        text = f"{self.cmd}: status {self.returncode}"
+        return lines(f"{text}\n{output}" if output else text)
 
 
 class Obeyed(NamedTuple):
@@ -60,7 +61,8 @@ class Obeyed(NamedTuple):
 
 def words_with_length(*words: str, lasting: Optional[Time] = None) -> str:
     """Joins the words that aren't empty; returns the line, with a length at the end if there is one."""
-    return " ".join(word for word in (*words, "" if lasting is None else spelled_time(lasting)) if word)
+    length = "" if lasting is None else spelled_time(lasting)
+    return " ".join(word for word in (*words, length) if word)
 
 
 class Net(Described):
@@ -113,12 +115,13 @@ class Net(Described):
             self.describe(f"at {spelled_time(at)} {words}")
             return []
         self.start()
-        replies = [(Obeyed(one.moment / 1e9, one.line), one.refused) for one in self.asked(change=words).told or []]
-        for orders, refusal in replies:
-            if refusal:
-                raise NetError(f"{words}: {orders.line}: {explained(orders.line, refusal)}")
-        self.obeyed += [orders for orders, _ in replies]
-        return [orders for orders, _ in replies]
+        obeyed = list[Obeyed]()
+        for reply in self.asked(change=words).told or []:
+            if reply.refused:
+                raise NetError(f"{words}: {reply.line}: {explained(reply.line, reply.refused)}")
+            obeyed.append(Obeyed(reply.moment / 1e9, reply.line))
+        self.obeyed += obeyed
+        return obeyed
 
     def change(
         self,
@@ -202,9 +205,11 @@ class Net(Described):
             "late": None if self.late is None else spelled_time(self.late),
             "outside": self.outside,
         }
-        more = [word for name, value in inputs.items() if value is not None for word in (f"--{name}", str(value))]
         read_end, self.leash = os.pipe()
-        words = ["net", str(file), "--transcripts", str(self.folder), "--logs", str(self.folder / "logs"), *more]
+        words = ["net", str(file), "--transcripts", str(self.folder), "--logs", str(self.folder / "logs")]
+        for name, value in inputs.items():
+            if value is not None:
+                words += [f"--{name}", str(value)]
         words += ["--control", str(self.socket), "--while-open", str(read_end)]
         self.is_running = True
         self.process = in_background(words, self.folder / "net.log", read_end)
@@ -267,13 +272,15 @@ class Net(Described):
     def address(self, host: str, version: int = 4) -> str:
         """Returns a host's main address for this IP version."""
         self.start()
-        return self.addresses()[host][version == 6]
+        return self.addresses()[host][1 if version == 6 else 0]
 
     def addresses(self) -> dict[str, list[str]]:
         """Returns all addresses of each host; the first two are the host's main addresses. Returns an empty dict before the
         start."""
-        ends = NetEnds(self.description) if self.description else None
-        return {name: ends.all_of(name) for name in ends.own} if ends else {}
+        if self.description is None:
+            return {}
+        ends = NetEnds(self.description)
+        return {name: ends.all_of(name) for name in ends.own}
 
     def output(self, host: str) -> str:
         """Returns the output of a host's command so far."""

@@ -33,13 +33,13 @@ def first_hops(start: str, net: Description, links: dict[str, list[tuple[int, st
     table: dict[str, Hop] = {}
     queue = deque([start])
     while queue:
-        at = queue.popleft()
-        if at != start and not net.hosts[at].forwards:
+        host = queue.popleft()
+        if host != start and not net.hosts[host].forwards:
             continue
-        for number, other in links[at]:
+        for number, other in links[host]:
             if other == start or other in table:
                 continue
-            hop = table.get(at, Hop(number, other, number))
+            hop = table.get(host, Hop(number, other, number))
             table[other] = Hop(hop.link, other, number) if net.hosts[hop.host].is_switch else hop
             queue.append(other)
     return table
