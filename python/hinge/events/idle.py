@@ -25,10 +25,10 @@ class FaultSpan(NamedTuple):
     end: int
 
 
-def fault_kind(timed: TimedEvent) -> str:
+def fault_kind(at_line: TimedEvent) -> str:
     """Returns a fault's kind: hold, cut, a port's cut, or the word for a host's fault. Returns an empty text for an event that
     isn't a fault."""
-    event = timed.event
+    event = at_line.event
     if isinstance(event, HoldingOutage) and not event.ending:
         return "hold"
     if event.ending == "heal":
@@ -155,9 +155,9 @@ def idle_events(events: Sequence[TimedEvent], is_open: bool) -> "list[tuple[Time
     return [(events[place], events[causes[place]]) for place in sorted(causes)]
 
 
-def covering_kinds(timed: TimedEvent, is_open: bool) -> list[str]:
+def covering_kinds(at_line: TimedEvent, is_open: bool) -> list[str]:
     """Returns the kinds of faults during which a fault has no effect."""
-    kind = fault_kind(timed)
+    kind = fault_kind(at_line)
     if kind in ACTS:
         return [kind, *(word for word in ACTS[kind].within if not is_open or ENDS.get(word) == ENDS.get(kind))]
-    return [kind, "cut"] if timed.event.port else [kind]
+    return [kind, "cut"] if at_line.event.port else [kind]

@@ -193,7 +193,7 @@ class Acts(Ticker):
 
     def note_later(self, host: str, moment: int) -> None:
         """Changes the moment of a host's latest finished act to a later moment, at which the act's effect began."""
-        place = max(place for place, finished in enumerate(self.done) if finished.act.host == host)
+        place = max(place for place, record in enumerate(self.done) if record.act.host == host)
         self.done[place] = self.done[place]._replace(moment=moment)
 
     def recorded(self, act: PlannedAct) -> tuple[int, bool]:
@@ -254,6 +254,6 @@ class Acts(Ticker):
 
     def stopped(self) -> Iterator[str]:
         """Yields the names of all stopped hosts."""
-        for host in dict.fromkeys(finished.act.host for finished in self.done):
+        for host in dict.fromkeys(record.act.host for record in self.done):
             if self.goes_on(host, "cont"):
                 yield host

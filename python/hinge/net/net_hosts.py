@@ -122,7 +122,7 @@ class NetHosts:
     def see_gone(self, host: str) -> None:
         """Waits until all processes of a killed host have ended. If a late restart came after the kill's moment, kills the new
         command too."""
-        moments = [finished.moment for finished in self.acts.done if finished.act.host == host]
+        moments = [record.moment for record in self.acts.done if record.act.host == host]
         if len(moments) > 1 and moments[-2] > moments[-1]:  # the restart came after the kill
             self.linked[host].empty()
         self.linked[host].is_empty()

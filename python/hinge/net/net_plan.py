@@ -88,7 +88,7 @@ class NetPlan:
     @property
     def drawn(self) -> list[str]:
         """Returns the `at` lines that the seed drew."""
-        return [str(timed) for timed in self.events if timed.is_drawn]
+        return [str(at_line) for at_line in self.events if at_line.is_drawn]
 
     def unruled(self) -> list[str]:
         """Returns the lines that configure queues to which no rule sends packets."""
@@ -182,11 +182,11 @@ class NetPlan:
         for moment, event in drawn_events(self.net, nemesis, Draw(self.seed, next(self.nemeses), self.draws)):
             self.add(TimedEvent(Moment(moment, self.has_main, ""), event, True), statement)
 
-    def add(self, timed: TimedEvent, statement: Statement) -> None:
+    def add(self, at_line: TimedEvent, statement: Statement) -> None:
         """Adds an event, which a statement of the net's file requests, to the plan."""
-        moment, event, _ = timed
+        moment, event, _ = at_line
         self.rest.spend(len({target // 2 if isinstance(target, int) else target for target in event.of}))  # links, or a host
-        self.events.append(timed._replace(event=kept(event)))
+        self.events.append(at_line._replace(event=kept(event)))
         self.lines_at.append(statement)
         if isinstance(event, HostAct):
             self.acts += self.acts_of(event, moment)
@@ -217,10 +217,10 @@ class NetPlan:
     def judge_ends(self) -> None:
         """Checks that each heal and cont ends a fault. Wrong: no cut goes on when a heal comes, or no stop when a cont comes."""
         ends = {end for _, end in fault_ends(self.events)}
-        for place, (timed, statement) in enumerate(zip(self.events, self.lines_at)):
-            word = WORDS.get(timed.event.word)
+        for place, (at_line, statement) in enumerate(zip(self.events, self.lines_at)):
+            word = WORDS.get(at_line.event.word)
             if word and word.none and place not in ends:
-                raise Wrong(f"{statement.place}: {timed.event.word!r}: {word.none} goes on then")
+                raise Wrong(f"{statement.place}: {at_line.event.word!r}: {word.none} goes on then")
 
     def judge(self) -> None:
         """Makes the emulator check all configuration lines in order, before anything starts. Unobeyed: the emulator rejects a

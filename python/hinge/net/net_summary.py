@@ -48,10 +48,10 @@ def act_records(
 ) -> list[dict[str, object]]:
     """Returns the JSON records for all acts and changes until `end`, in order: from `at` lines, and acts from `hinge change`."""
     records = list[tuple[int, dict[str, object]]]()
-    for timed in acts:
-        moment = moment_of(timed, main)
-        if moment is not None and moment <= end and not isinstance(timed.event, HostAct):
-            records.append((moment, {"moment": moment, "at": str(timed.moment), "words": timed.event.words}))
+    for at_line in acts:
+        moment = moment_of(at_line, main)
+        if moment is not None and moment <= end and not isinstance(at_line.event, HostAct):
+            records.append((moment, {"moment": moment, "at": str(at_line.moment), "words": at_line.event.words}))
     for moment, act, _ in result:
         records.append((moment, {"moment": moment, "at": str(act.moment), "words": f"{act.word} {act.host}"}))
     return [record for _, record in sorted(records, key=itemgetter(0))]
@@ -137,7 +137,7 @@ def status_without(missing: str) -> int:
 def of_nothing(order: NetOrder, acts: Sequence[FinishedAct]) -> Iterator[tuple[str, bool]]:
     """Yields each fault of a host on which nothing ran, and whether a seed drew the fault. Omits stops in a net with --control,
     because there a stop has an effect even so: the stop keeps `hinge exec` from the host."""
-    drawn = {(timed.moment, timed.event.word, timed.event.of) for timed in order.net_plan.events if timed.is_drawn}
+    drawn = {(at_line.moment, at_line.event.word, at_line.event.of) for at_line in order.net_plan.events if at_line.is_drawn}
     for _, act, is_idle in acts:
         if is_idle and not (act.word == "stop" and order.options.control):
             yield f"`{act.word} {act.host}`", (act.moment, act.word, (act.host,)) in drawn
@@ -183,11 +183,11 @@ def awaited_events(order: NetOrder, ran: NetRan) -> Awaited:
     """Returns the events that the net's file requests, with those that had no effect, for the verdict."""
     net_plan = order.net_plan
     plan = net_plan.plan
-    moments = [(moment_of(timed, ran.main) or 0, str(timed)) for timed in net_plan.events if not timed.is_drawn]
+    moments = [(moment_of(at_line, ran.main) or 0, str(at_line)) for at_line in net_plan.events if not at_line.is_drawn]
     idle = [
-        (timed, cause)
-        for timed, cause in idle_events(net_plan.events, bool(order.options.control))
-        if (moment_of(timed, ran.main) or 0) <= ran.counts["moment"]
+        (at_line, cause)
+        for at_line, cause in idle_events(net_plan.events, bool(order.options.control))
+        if (moment_of(at_line, ran.main) or 0) <= ran.counts["moment"]
     ]
     idle_acts = list(of_nothing(order, ran.acts))
     return Awaited([*moments, *plan.moments], plan.chosen, idle, plan.rules, net_plan.unruled(), idle_acts)

@@ -130,16 +130,16 @@ def statements(path: str) -> Iterator[Statement]:
 def all_statements(path: str) -> Iterator[Statement]:
     """Yields the lines in a net's file, each joined with its continuation lines. The shell reads the comments in commands; other
     lines end at a comment. Wrong: a line is too long with its continuation lines."""
-    continued = ""  # the lines so far of a line that continues
+    start = ""  # the lines so far of a line that continues
     first = 0  # the number of its first line
     for number, line in enumerate(chain(read_lines(path), [""]), 1):
-        if not continued:
+        if not start:
             first = number
-        line = continued + line.strip()
+        line = start + line.strip()
         if len(line) > LONGEST:
             raise Wrong(f"{path} line {first}: with the lines behind it, it has more than {LONGEST:,} letters")
-        continued = line[:-1].rstrip() + " " if line.endswith("\\") else ""
-        if continued or line.startswith("#"):
+        start = line[:-1].rstrip() + " " if line.endswith("\\") else ""
+        if start or line.startswith("#"):
             continue
         text = line if first_word(line)[0] in TAKES_A_COMMAND else bare(line)
         if text:
