@@ -36,10 +36,14 @@ def link_event(text: str, option: str, ends: str = "", link: int = 0, is_back: b
     link number `link`; if `is_back`, these words name the link's second end first. `both_ways` splits a link's words into the
     words for each way. Wrong: the text describes no event for a link.
     """
-    text, typed = bare(text), bare(f"{ends} {text}")
+    typed = bare(f"{ends} {text}")
+    text = bare(text)
     first, behind = first_word(text)
     side, rest = (first, behind) if first in WAYS else ("", text)
-    ways = tuple(2 * link + (way ^ is_back) for way in ([WAYS[side]] if side else [0, 1]))  # the first from the end named first
+    numbers = [WAYS[side]] if side else [0, 1]
+    if is_back:
+        numbers = [1 - number for number in numbers]
+    ways = tuple(2 * link + number for number in numbers)  # the first way is from the end that is named first
     if rest in ("cut", "off"):
         raise Wrong(f"'{rest}': a cut has a length (example: outage 5s lossy)")
     if first_word(rest)[0] == "outage":

@@ -185,7 +185,7 @@ class Acts(Ticker):
         self.finish(act.host)
         is_idle = may_be_idle and not self.is_of_links(act) and self.has_nothing(act.host)
         rest = self.do_act(act)
-        moment, met_nothing = self.recorded(act)
+        moment, met_nothing = self.record_act(act)
         self.done.append(FinishedAct(moment, act, is_idle or (may_be_idle and met_nothing)))
         if rest:
             self.rests.append((act.host, rest))
@@ -196,7 +196,7 @@ class Acts(Ticker):
         place = max(place for place, record in enumerate(self.done) if record.act.host == host)
         self.done[place] = self.done[place]._replace(moment=moment)
 
-    def recorded(self, act: PlannedAct) -> tuple[int, bool]:
+    def record_act(self, act: PlannedAct) -> tuple[int, bool]:
         """Records an act in the transcript, or asks the links about an act that they carried out. Returns the act's moment in ns
         on the links' clock, and whether the links found no process for a fault."""
         if not self.is_of_links(act):

@@ -36,8 +36,9 @@ class NetRequests:
         self.doors = Doors()
 
     def obey(self, words: str, moment: int) -> Effect:
-        """Applies the words of an `at` line at a moment, which is now, in ns. Returns the links' part for an event on links, and
-        otherwise the finished act. Wrong: the words describe no event, or the event would have no effect."""
+        """Applies the words of an `at` line at a moment, which is now, in ns. Returns what the links have to do, or for
+        an act on a host the line of the act with its moment. Wrong: the words describe no event, or the event would have no effect.
+        """
         net_plan = self.net.order.net_plan
         with with_place(f"'{words}'"):
             event = parse(words, self.net.net)

@@ -151,7 +151,8 @@ class NetPlan:
     def trace(self, statement: Statement) -> None:
         """Reads a line `trace`: a file that the bandwidth of a way follows."""
         number, is_back = self.net.between(statement, TRACE)
-        self.plan.trace(2 * number + is_back, self.file(statement, TRACE), None, TRACE_LASTING)
+        way = 2 * number + 1 if is_back else 2 * number
+        self.plan.trace(way, self.file(statement, TRACE), None, TRACE_LASTING)
 
     def moment(self, word: str) -> Moment:
         """Returns the moment that a word names. `main+5s` counts from the main command's start, and `start+5s` from the links'

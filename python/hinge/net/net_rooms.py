@@ -102,7 +102,7 @@ class NetEnds:
         if (link, name) in self.ports:
             port = self.ports[link, name]
             return port.segment, port.number - 1
-        return link, int(name == self.net.links[link].ends[1])
+        return link, self.net.links[link].ends.index(name)
 
     def at_end(self, name: str, link: int) -> Addresses:
         """Returns the addresses at a link's end on a host."""
@@ -113,8 +113,8 @@ class NetEnds:
         return f"fe80::{self.place_of_end(name, link)[1] + 1:x}"
 
     def gateways(self, to: str, hop: Hop) -> tuple[Optional[str], Optional[str]]:
-        """Returns the IPv4 and IPv6 addresses of the next router for a route to the host `to`, if the route begins at a switch;
-        otherwise None for both."""
+        """Returns the next router's IPv4 and IPv6 addresses for a route to the host `to`. Returns None for both if the first hop is
+        that host, or doesn't pass a switch."""
         if hop.host == to or (hop.host_link, hop.host) not in self.ports:
             return None, None
         return self.at_end(hop.host, hop.host_link).four, self.link_local(hop.host, hop.host_link)

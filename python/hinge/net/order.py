@@ -52,7 +52,7 @@ class LinksPlan:
         self.linked = linked
 
     def text(self) -> str:
-        """Returns the plan. If there is a transcript, the plan's second part describes the hosts and paths for an audit."""
+        """Returns the plan. With a transcript, lines that describe the hosts and paths for an audit follow the plan's first line."""
         plan = self.order.plan
         for ways in self.net.ways_into_switches().values():
             if ways:

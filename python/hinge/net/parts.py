@@ -31,7 +31,8 @@ class NetLink:
 
     def other(self, name: str) -> str:
         """Returns the end of the link that isn't this host."""
-        return self.ends[name == self.ends[0]]
+        first, second = self.ends
+        return second if name == first else first
 
 
 class Port(NamedTuple):
