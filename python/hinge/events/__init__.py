@@ -1,1 +1,1 @@
-"""A run's events: effects on links and hosts from a file, a seed, the control socket or Python."""
+"""Events in a run: changes to links and acts on hosts, requested by a file, a seed, the control socket or Python."""

@@ -1,4 +1,4 @@
-"""The words of events, whose forms a help lists, and what people write instead of lines with them."""
+"""The words that name events in a net's file: their forms for the help, and corrections of lines that people often write instead."""
 
 from __future__ import annotations
 
@@ -9,15 +9,15 @@ from hingetulip_words.values import FACTOR, PER_SECOND
 
 
 class Word(NamedTuple):
-    """A word of an `at` line and of `hinge change`."""
+    """Describes a word that begins an event in an `at` line or in `hinge change`, such as cut or kill."""
 
-    form: str
-    effect: str
-    ending: str = ""  # the word that ends it
-    within: "tuple[str, ...]" = ()  # other faults of a host, during which it changes nothing
-    none: str = ""  # of a word that ends others: what is missing where it is refused
-    is_write: bool = False  # which the links make, on hosts with cgroups
-    is_simulated: bool = False  # of simulated time alone
+    form: str  # the words of the whole event, as the help shows them
+    effect: str  # the rest of the event's line in the help
+    ending: str = ""  # the word that ends the event's fault
+    within: "tuple[str, ...]" = ()  # other faults of a host, during which the event has no effect
+    none: str = ""  # for a word that ends faults: the missing fault, for the refusal
+    is_write: bool = False  # whether the links carry out the act on hosts with cgroups, by writing to a file
+    is_simulated: bool = False  # whether the event needs simulated time
 
 
 LINK_WORDS = {
@@ -34,12 +34,13 @@ ACTS = {
 }
 WORDS = LINK_WORDS | ACTS
 ENDS = {name: word.ending for name, word in ACTS.items() if word.ending}
+EFFECT_COLUMN = 38  # of the help
 OUTAGE = "[up|down] outage LENGTH [lossy [tcp|udp port N]]"
-PROTOCOLS = {"tcp": 6, "udp": 17}  # by whose ports a cut chooses packets
+PROTOCOLS = {"tcp": 6, "udp": 17}  # the protocols by whose ports a cut chooses packets
 HOST = r"([A-Za-z][\w-]*)"
 ACT = "|".join(WORDS)
 ALONE = "|".join(name for name in ACTS if name != "skew")
-NET_LINES = (  # what people write of a net, and the line that says it
+NET_LINES = (  # patterns of wrong lines that people write in a net's file, and the right lines
     (r"((?!nemesis).*) for (\d\S*)", r"\1 \2"),
     (r"(?:after|at) (\S+?)[:,]? (.*)", r"at \1 \2"),
     (r"(?:nodes|hosts|machines|servers|clients):? ([A-Za-z][\w-]*),? (.+)", r"host \1, and the others each in a line of its own"),
@@ -66,7 +67,7 @@ NET_LINES = (  # what people write of a net, and the line that says it
     (rf"at (\S+) loss {HOST} {HOST} (\d.*)", r"at \1 \2 \3 loss \4"),
     (r"(?:\w+:|[-{[<]).*", "host NAME, and `link A B 20ms`, each in a line of its own, as a net is neither YAML nor JSON"),
 )
-CHANGES = (  # the same of a timeline
+CHANGES = (  # patterns of wrong lines in a timeline, and the right lines
     (r"(?:at|after) (.*)", r"\1"),
     (r"(\d\S*?)[:,]? (?:link|change|set|to|->|=>) (.*)", r"\1 \2"),
     (r"(\d\S*?)[:,] (.*)", r"\1 \2"),
@@ -78,7 +79,8 @@ CHANGES = (  # the same of a timeline
 
 
 def line_meant(text: str, forms: "Sequence[tuple[str, str]]" = NET_LINES) -> str:
-    """Returns a line of a net or timeline that means the same, or an empty text."""
+    """Returns the right line for a net's file (for a timeline with the forms CHANGES) in place of a line that people write by
+    mistake. Returns an empty text if no form fits."""
     line = text
     for pattern, form in forms:
         match = re.fullmatch(pattern, line)
@@ -87,6 +89,12 @@ def line_meant(text: str, forms: "Sequence[tuple[str, str]]" = NET_LINES) -> str
 
 
 def help_lines() -> str:
-    """Returns the forms of lines `at` with their effects, for a help."""
-    forms = {f"  at TIME {word.form}": word.effect for word in WORDS.values()}
-    return "".join(f"{form:38}{effect}\n" if len(form) < 38 else f"{form}\n{'':38}{effect}\n" for form, effect in forms.items())
+    """Returns the help's text about `at` lines: the form of each event, followed by the event's effect."""
+    text = ""
+    for word in WORDS.values():
+        form = f"  at TIME {word.form}"
+        if len(form) >= EFFECT_COLUMN:
+            text += f"{form}\n"
+            form = ""
+        text += f"{form:{EFFECT_COLUMN}}{word.effect}\n"
+    return text

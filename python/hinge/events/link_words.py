@@ -14,7 +14,7 @@ TwoWays = Callable[[str], "tuple[str, str]"]
 
 
 def read_port(words: "list[str]") -> Optional[Port]:
-    """Returns the port of `tcp port N` or `udp port N`, or None without words. Wrong: the words are others."""
+    """Returns the port from three words such as `tcp port 7001`; None without words. Wrong: the words describe no port."""
     if not words:
         return None
     protocol, port, number = words
@@ -24,17 +24,26 @@ def read_port(words: "list[str]") -> Optional[Port]:
 
 
 def alike(text: str) -> "tuple[str, str]":
-    """Returns the same words for both ways."""
+    """Returns the words for both ways of a link, which are the same."""
     return text, text
 
 
 def link_event(text: str, option: str, ends: str = "", link: int = 0, is_back: bool = False, both_ways: TwoWays = alike) -> Event:
-    """Returns the event of `[up|down] LINK`, `[up|down] outage LENGTH [lossy]` or a configuration line. If `is_back`, the words
-    name the link's second end first. Wrong: the text isn't a link's event; `option` is its place."""
-    text, typed = bare(text), bare(f"{ends} {text}")
+    """Returns the event that a text describes: `[up|down] LINK`, `[up|down] outage LENGTH [lossy [tcp|udp port N]]` or a
+    configuration line.
+
+    `option` names the text's place in error messages. In a net, `ends` contains the words before the text, which name the ends of
+    link number `link`; if `is_back`, these words name the link's second end first. `both_ways` splits a link's words into the
+    words for each way. Wrong: the text describes no event for a link.
+    """
+    typed = bare(f"{ends} {text}")
+    text = bare(text)
     first, behind = first_word(text)
     side, rest = (first, behind) if first in WAYS else ("", text)
-    ways = tuple(2 * link + (way ^ is_back) for way in ([WAYS[side]] if side else [0, 1]))  # the first from the end named first
+    numbers = [WAYS[side]] if side else [0, 1]
+    if is_back:
+        numbers = [1 - number for number in numbers]
+    ways = tuple(2 * link + number for number in numbers)  # the first way is from the end that is named first
     if rest in ("cut", "off"):
         raise Wrong(f"'{rest}': a cut has a length (example: outage 5s lossy)")
     if first_word(rest)[0] == "outage":

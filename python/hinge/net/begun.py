@@ -1,4 +1,4 @@
-"""The command `hinge net` after its command line is parsed."""
+"""The command `hinge net`, from the options on."""
 
 from __future__ import annotations
 
@@ -38,13 +38,16 @@ from hinge.simulated import start
 
 
 def with_files(options: NetOptions) -> NetOptions:
-    """Returns the options with transcript and summary in a folder for both, if it is writable."""
+    """Creates the folders for --transcripts and --logs, copies the net's file into the first, and checks all output files.
+    Returns the options with paths for the history and the summary."""
     refuse_own_input("--transcripts", options.transcripts, [options.file])
     for path in (options.transcripts, options.logs):
         if path:
             os.makedirs(path, exist_ok=True)
     if options.transcripts:
-        history, summary, net = (os.path.join(options.transcripts, name) for name in (HISTORY, SUMMARY, NET))
+        history = os.path.join(options.transcripts, HISTORY)
+        summary = os.path.join(options.transcripts, SUMMARY)
+        net = os.path.join(options.transcripts, NET)
         options = options.but(transcript=options.transcript or history, json=options.json or summary)
         if os.path.realpath(options.file) != os.path.realpath(net):
             shutil.copyfile(options.file, net)  # by which `hinge look` judges the session
@@ -55,38 +58,43 @@ def with_files(options: NetOptions) -> NetOptions:
 
 
 def refuse_idle_lines(net_plan: NetPlan, is_open: bool) -> None:
-    """Refuses idle lines. Wrong: other lines leave a line of the file without effect. Unobeyed: a line repeats an option. If the
-    net is open to others, a later change may need the line."""
+    """Checks for lines without effect. `is_open` tells that users may start commands in the net. Wrong: two lines configure the
+    same pipe or queue at the same moment, or no command waits for a port. Unobeyed: a line contains an option twice."""
     before = dict[bool, set[tuple[int, str, int]]]()
     for of_main, moment, line, statement in net_plan.places:
         if statement.word == "at":
             with placed(statement.place):
                 refuse_second([Change(moment, line)], before.setdefault(of_main, set()))
-        if option := twice(line.split()):
+        option = twice(line.split())
+        if option:
             raise Unobeyed(f"{statement.place}: {option} stands twice; write one of them")
     if net_plan.net.waits and not net_plan.has_main and not is_open:
         raise Wrong(f"wait {net_plan.net.waits[0].host}: no command waits; write a line `main NAME COMMAND`, which begins then")
 
 
 def show_net(net: Description) -> None:
-    """Hosts with their addresses and links."""
+    """Prints the hosts with their addresses and commands, and then each pipe with its way's words."""
     ends = NetEnds(net)
     for name, host in net.hosts.items():
-        show(
-            f"{name} switch"
-            if host.is_switch
-            else f"{name} {' '.join(ends.own[name])}{' router' * host.forwards}{' main' if name == net.main else ''}"
-            f"{f': {host.command}' if host.command else ''}"
-        )
+        if host.is_switch:
+            show(f"{name} switch")
+            continue
+        words = [name, *ends.own[name]]
+        if host.forwards:
+            words.append("router")
+        if name == net.main:
+            words.append("main")
+        show(" ".join(words) + (f": {host.command}" if host.command else ""))
     for number, link in enumerate(net.links):
-        for pipe, (one, two, words) in enumerate(((*link.ends, link.ways[0]), (*link.ends[::-1], link.ways[1])), 2 * number + 1):
-            at = [f"{name} {ends.at_end(name, number).four}" if name in ends.own else name for name in (one, two)]
-            show(f"pipe {pipe}: {at[0]} > {at[1]}: {words or 'open'}")
+        one, two = (f"{name} {ends.at_end(name, number).four}" if name in ends.own else name for name in link.ends)
+        up, down = link.ways
+        show(f"pipe {2 * number + 1}: {one} > {two}: {up or 'open'}")
+        show(f"pipe {2 * number + 2}: {two} > {one}: {down or 'open'}")
 
 
 def refuse_gap(net: Description, options: NetOptions) -> None:
-    """Checks routers. Wrong: a host that forwards packets has no command. With --control it may get one later, so the net only
-    warns."""
+    """Checks for a host that was probably meant as a router: a host without a command between hosts that have no route to each
+    other. Wrong: there is such a host. With --control, the host may get a command later, so this call only prints a warning."""
     hole = gap(net)
     if hole is None or hole.between == options.shell:
         return
@@ -98,31 +106,38 @@ def refuse_gap(net: Description, options: NetOptions) -> None:
 
 
 def run(arguments: NetOptions) -> None:
-    """Checks the options and runs the net. Wrong: an option, or a word of the net, has no effect here."""
+    """Checks the options, and runs the net; with --dry-run, shows the net instead. Wrong: an option, or a word of the net, has no
+    effect here."""
     refuse_gap(read_description(arguments.file), arguments)
     net = net_of(arguments)
     seed = drawn_seed(arguments.seed)
     net_plan = NetPlan(net, net.longest(arguments.mtu), seed)  # so that a wrong word is told before folders are made
-    limit_of(arguments.late), end_wait_of(arguments), outside_of(arguments, net)
-    refuse_idle_lines(net_plan, bool(arguments.control or arguments.stay or arguments.while_open is not None))
+    # These three are called only for their refusals.
+    limit_of(arguments.late)
+    end_wait_of(arguments)
+    outside_of(arguments, net)
+    stays = arguments.stay or arguments.while_open is not None
+    refuse_idle_lines(net_plan, bool(arguments.control or stays))
     refuse_idle(net_plan.plan, [link.statement.place for link in net.links for _ in link.ways], bool(arguments.control))
     is_of_links = arguments.seed is not None and not (arguments.simulated or arguments.control)
     refuse_idle_seed(is_of_links, draws(net_plan.plan) or bool(net_plan.drawn))
     if arguments.dry_run:
         show_net(net)
-        for line in [*([f"# by seed {seed}"] if net_plan.drawn else []), *net_plan.drawn]:
+        if net_plan.drawn:
+            show(f"# by seed {seed}")
+        for line in net_plan.drawn:
             show(line)
         return
     arguments = with_files(arguments)
     if arguments.simulated:
-        if arguments.stay or arguments.while_open is not None:
+        if stays:
             raise Wrong("--stay, --while-open: nobody can end a machine of its own; simulated time ends with its commands")
         sys.exit(start.run_simulated(arguments))
     begin(arguments)
 
 
 def begin(options: NetOptions) -> NoReturn:
-    """Runs the command here, on this system's clock."""
+    """Runs the net on this system and its clock, and ends this process with the net's status."""
     mask = signal.pthread_sigmask(signal.SIG_BLOCK, ())
     program()
     order = net_order(options, net_of(options), mask, is_simulated())
@@ -142,13 +157,14 @@ def begin(options: NetOptions) -> NoReturn:
 
 
 def begin_inside() -> NoReturn:
-    """Runs a net with disks in a simulated machine. The launcher's word contains the options."""
+    """Runs a net inside a simulated machine. The first argument of this process contains the options in JSON."""
     NAME[0] = "hinge net"
     run_command(lambda: begin(NetOptions(**json.loads(sys.argv[1]))))
 
 
 def look_at(pipe: int) -> None:
-    """Makes the system send SIGIO to this process when a pipe can be read. The process can't start a thread for that any more."""
+    """Makes the system send SIGIO to this process when a pipe can be read. A thread can't wait for the pipe, because this process
+    can't start threads any more."""
     fcntl.fcntl(pipe, fcntl.F_SETOWN, os.getpid())
     fcntl.fcntl(pipe, fcntl.F_SETFL, fcntl.fcntl(pipe, fcntl.F_GETFL) | os.O_ASYNC)
     if can_be_read(pipe, 0):

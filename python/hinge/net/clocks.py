@@ -17,18 +17,20 @@ IN_REAL_TIME = "hosts have clocks of their own in simulated time alone; add --si
 
 
 def read_skew(statement: Statement) -> str:
-    """Returns the kernel's words for a skew such as `+2s`, `-300ms 100ppm` or `+0s -50.5ppm`: the ns by which a clock is ahead, and the
-    ns that it gains each second from then on. Wrong: the words are no skew."""
+    """Reads a skew such as `+2s`, `-300ms 100ppm` or `+0s -50.5ppm`; returns the skew in the kernel's words: the ns by which the
+    clock is ahead, and the ns that the clock gains in each second from then on. Wrong: the words describe no skew."""
     word = statement.take(SKEW)
     if word[0] not in "+-":
         raise statement.wrong(word, f"how far the clock is ahead, as +2s, or behind, as -2s: {SKEW}")
     with placed(statement.place):
-        ahead = duration(word[1:]) * (1 if word[0] == "+" else -1)
-    gains = statement.take(SKEW) if statement.peek() else "0ppm"
-    match = re.fullmatch(r"([+-]?\d{1,6}(?:\.\d{1,3})?)ppm", gains, re.ASCII)
+        length = duration(word[1:])
+    ahead = length if word[0] == "+" else -length
+    rate = statement.take(SKEW) if statement.peek() else "0ppm"
+    match = re.fullmatch(r"([+-]?\d{1,6}(?:\.\d{1,3})?)ppm", rate, re.ASCII)
     if not match or abs(float(match[1])) > MOST_PPM:
-        raise statement.wrong(gains, f"what the clock gains, as 100ppm or -50.5ppm, at most {MOST_PPM}ppm: {SKEW}")
-    return f"{ahead} {round(float(match[1]) * 1000)}"
+        raise statement.wrong(rate, f"what the clock gains, as 100ppm or -50.5ppm, at most {MOST_PPM}ppm: {SKEW}")
+    gain = round(float(match[1]) * 1000)  # ns in a second
+    return f"{ahead} {gain}"
 
 
 def clock_number(host: str, hosts: Iterable[str]) -> int:
@@ -43,4 +45,5 @@ def take_clock(number: int) -> None:
 
 
 def set_clock(number: int, skew: str) -> None:
+    """Sets a host's clock to a skew in the kernel's words, if the kernel supports clocks."""
     try_to_write(PLACE, f"{number} {skew}")

@@ -14,7 +14,7 @@ from hinge.run.system import NEWNS, Missing, join, unshare
 from hinge.run.words import Wrong
 
 if TYPE_CHECKING:
-    from hinge.net.description import NetHost
+    from hinge.net.parts import NetHost
 
 DISK = "disk HOST PATH [SIZE]"
 PLACE = "/run/disks"  # of the simulated machine's first process
@@ -25,16 +25,20 @@ IN_REAL_TIME = "hosts have disks that a crash can empty in simulated time alone;
 
 
 class Disk(NamedTuple):
+    """Describes a host's disk."""
+
     path: str  # where its host finds it
     size: int  # MiB
 
 
 def read_disk(statement: Statement) -> Disk:
-    """Returns the disk described by `/data`, or by `data 256M` relative to the folder of the net's file."""
+    """Reads a disk: `/data`, or `data 256M` relative to the net file's folder; returns the disk. Wrong: the size is wrong."""
     path = os.path.abspath(os.path.join(os.path.dirname(statement.path), statement.take(DISK)))
     word = statement.take(DISK) if statement.peek() else f"{USUAL}M"
     match = re.fullmatch(r"(\d{1,5})([MG])", word, re.ASCII)
-    size = int(match[1]) << {"M": 0, "G": 10}[match[2]] if match else 0
+    size = int(match[1]) if match else 0  # MiB
+    if match and match[2] == "G":
+        size <<= 10
     if not LEAST <= size <= MOST:
         raise statement.wrong(word, f"no size from {LEAST}M to {MOST >> 10}G: {DISK}")
     statement.done(DISK)
@@ -42,7 +46,8 @@ def read_disk(statement: Statement) -> Disk:
 
 
 def refuse_disks(path: str, hosts: Iterable[NetHost], simulated: bool) -> None:
-    """Wrong: the net has disks, but runs in real time. Missing: the program that creates disks isn't installed."""
+    """Checks that disks are possible here. Wrong: the net runs in real time. Missing: the program that creates disks isn't
+    installed."""
     if any(host.disks for host in hosts):
         if not simulated:
             raise Wrong(f"{path}: disk: {IN_REAL_TIME}")
@@ -56,8 +61,9 @@ def opened_mounts() -> list[int]:
 
 
 def enter_mounts(mounts: list[int]) -> None:
-    """Moves this process into a mount namespace, and back into its working directory."""
-    folder, (root, namespace) = os.getcwd(), mounts
+    """Moves this process into a mount namespace, and there into the folder with the path of its working directory."""
+    folder = os.getcwd()
+    root, namespace = mounts
     join(namespace, NEWNS)
     os.fchdir(root)
     os.chroot(".")
@@ -65,9 +71,10 @@ def enter_mounts(mounts: list[int]) -> None:
 
 
 class Disks:
-    """The disks of all hosts. Create it in the first process, before any thread starts.
+    """Holds the disks of all hosts. Create it in the first process, before any thread starts.
 
-    A host with disks uses a mount namespace that outlives the host's processes, so a process that ends writes nothing to the disk.
+    A host with disks uses a mount namespace that outlives the host's processes, so a process that ends writes nothing to the
+    disk.
     """
 
     def __init__(self, hosts: Iterable[NetHost]) -> None:
@@ -82,12 +89,14 @@ class Disks:
             enter_mounts(own)
 
     def ask(self, does: str, host: str) -> None:
-        """Makes the first process create a host's disks, or drop their unsynced writes. Missing: it failed."""
+        """Makes the simulated machine's first process create a host's disks (`make`), or drop their unsynced writes (`lose`).
+        Missing: the request failed."""
         for number, disk in self.of[host]:
             answer = answer_of(PLACE, f"{does} {number} {disk.size} {self.mounts[host][1]} {disk.path}")
             if answer != "done":
                 raise Missing(f"disk {host} {disk.path}: {answer}")
 
     def enter(self, host: str) -> None:
+        """Moves this process into a host's mount namespace, if the host has disks."""
         if host in self.mounts:
             enter_mounts(self.mounts[host])

@@ -1,4 +1,4 @@
-"""The control socket's requests for a net: link changes, acts on hosts, `hinge exec`, and status."""
+"""The requests at a net's control socket: changes to links, acts on hosts, `hinge exec`, and the net's status."""
 
 from __future__ import annotations
 
@@ -18,40 +18,62 @@ if TYPE_CHECKING:
 
 
 def opened_control(net: NetInside) -> Optional[Control]:
-    """Opens the socket from --control. A change uses the words of an `at` line, without the moment."""
+    """Returns the control socket from --control, opened; None without the option."""
 
-    def obey(words: str, moment: int) -> Effect:
-        plan = net.order.made
+    path = net.order.options.control
+    if not path:
+        return None
+    requests = NetRequests(net)
+    plan = net.order.net_plan.plan
+    return Control(path, plan, net.page, requests.obey, requests.status, requests.enter_host, net.lines)
+
+
+class NetRequests:
+    """Carries out the control socket's requests in a net."""
+
+    def __init__(self, net: NetInside) -> None:
+        self.net = net
+        self.doors = Doors()
+
+    def obey(self, words: str, moment: int) -> Effect:
+        """Applies the words of an `at` line at a moment, which is now, in ns. Returns what the links have to do, or for
+        an act on a host the line of the act with its moment. Wrong: the words describe no event, or the event would have no effect.
+        """
+        net_plan = self.net.order.net_plan
         with with_place(f"'{words}'"):
-            event = parse(words, net.net)
-            new = [] if isinstance(event, HostAct) else plan.happenings(event, moment, plan.plan.changes)
-        if isinstance(event, HostAct) and event.word == "skew":
-            raise Wrong(f"skew: {IN_REAL_TIME}")
-        if isinstance(event, HostAct) and event.word == "cont" and not net.acts.goes_on(event.host, "cont"):
-            raise Wrong(f"cont: {event.host} isn't stopped")
-        if isinstance(event, HostAct) and event.ending == "restart" and net.has_nothing(event.host):
-            begun = f"; `restart {event.host}` begins its command" if net.net.hosts[event.host].command else ""
-            raise Wrong(f"{event.word}: nothing runs on {event.host}{begun}")
-        if isinstance(event, HostAct):
-            net.lines.ask(f"line remark change,{words}")
-            return net.acts.ask(plan.acts_of(event, Moment(moment, False, "")))
-        return new
+            event = parse(words, self.net.net)
+            if not isinstance(event, HostAct):
+                return net_plan.happenings(event, moment, net_plan.plan.changes)
+        self.refuse_idle_act(event)
+        self.net.lines.ask(f"line remark change,{words}")
+        return self.net.acts.ask(net_plan.acts_of(event, Moment(moment, False, "")))
 
-    def status() -> dict[str, object]:
+    def refuse_idle_act(self, act: HostAct) -> None:
+        """Checks that an act has an effect now. Wrong: the host isn't stopped, no process runs there, or a skew needs simulated time."""
+        if act.word == "skew":
+            raise Wrong(f"skew: {IN_REAL_TIME}")
+        if act.word == "cont" and not self.net.acts.goes_on(act.host, "cont"):
+            raise Wrong(f"cont: {act.host} isn't stopped")
+        if act.ending == "restart" and self.net.has_nothing(act.host):
+            hint = f"; `restart {act.host}` begins its command" if self.net.net.hosts[act.host].command else ""
+            raise Wrong(f"{act.word}: nothing runs on {act.host}{hint}")
+
+    def status(self) -> dict[str, object]:
+        """Returns the counts so far, the statuses of commands that have ended, and the optional ports that are missing."""
+        net = self.net
         endings = {name: net.processes.ended[pid] for name, pid in net.started.items() if pid in net.processes.ended}
         return {**net_record(net.net, net.page.read(), net.rooms.dropped(), {}), "ended": endings, "silent": net.silent}
 
-    doors = Doors()
-
-    def enter_host(name: str) -> HostRoom:
+    def enter_host(self, name: str) -> HostRoom:
+        """Returns the descriptors and the environment with which `hinge exec` enters a host. Wrong: there is no such host, or the
+        host is stopped."""
+        net = self.net
         if name not in net.rooms.network:
             raise Wrong(f"{name!r}: no host of this net, which are {', '.join(net.rooms.network)}")
         if net.acts.goes_on(name, "cont"):
             raise Wrong(f"{name} is stopped: `cont {name}` lets it go on")
         net.lines.ask(f"line remark exec,{name}")
-        cgroup = net.linked.get(name)
-        more = [cgroup.descriptors["cgroup.procs"]] if cgroup else []
-        return HostRoom(doors.to(net.rooms.network[name], net.disks.mounts.get(name)) + more, net.variables(name))
-
-    path = net.order.options.control
-    return Control(path, net.order.made.plan, net.page, obey, status, enter_host, net.lines) if path else None
+        descriptors = self.doors.to(net.rooms.network[name], net.disks.mounts.get(name))
+        if name in net.linked:
+            descriptors = [*descriptors, net.linked[name].descriptors["cgroup.procs"]]
+        return HostRoom(descriptors, net.variables(name))

@@ -37,10 +37,10 @@ from hinge.run.words import Wrong
 from hingetulip_words.explained import explained
 
 __tracebackhide__ = True  # of a test that fails, pytest shows its own line
-POLL = 0.01  # s between looks whether it has begun
-PATIENCE = 600.0  # s until it has begun; the waits for ports are shorter
-END_PATIENCE = 60.0  # s until it has ended
-LAST_LINES = 10  # of what a host printed, where its command failed
+POLL = 0.01  # s between two checks whether the net has begun
+PATIENCE = 600.0  # s to wait for the net's replies; the waits for ports are shorter
+END_PATIENCE = 60.0  # s to wait for the net's end
+LAST_LINES = 10  # the lines of a host's output in an error message
 
 
 class CommandFailed(CalledProcessError):
@@ -48,23 +48,26 @@ class CommandFailed(CalledProcessError):
 
     def __str__(self) -> str:
         output = "\n".join(text.rstrip() for text in (self.stdout, self.stderr) if isinstance(text, str) and text.strip())
-        return lines(f"{self.cmd}: status {self.returncode}" + (f"\n{output}" if output else ""))
+        text = f"{self.cmd}: status {self.returncode}"
+        return lines(f"{text}\n{output}" if output else text)
 
 
 class Obeyed(NamedTuple):
-    """A configuration line or an act that took effect, with its moment on the links' clock."""
+    """Describes a configuration line or an act that took effect, with its moment on the links' clock."""
 
     seconds: float
     line: str
 
 
 def words_with_length(*words: str, lasting: Optional[Time] = None) -> str:
-    """Returns words in a line, followed by a length if there is one."""
-    return " ".join(word for word in (*words, "" if lasting is None else spelled_time(lasting)) if word)
+    """Joins the words that aren't empty; returns the line, with a length at the end if there is one."""
+    length = "" if lasting is None else spelled_time(lasting)
+    return " ".join(word for word in (*words, length) if word)
 
 
 class Net(Described):
-    """A net. Describe it, then call `start`; `run` and a change without a moment start the net if needed."""
+    """Runs a net that Python describes and controls. Describe the net, then call `start`; `run`, and a change without a moment,
+    start the net if needed."""
 
     def __init__(
         self,
@@ -77,9 +80,10 @@ class Net(Described):
         link: str = "",
         back: Optional[str] = None,
     ) -> None:
-        """`folder` receives the history, the summary and the hosts' output. Without `folder`, they are deleted at the end.
+        """`folder` receives the history, the summary and the hosts' output. Without `folder`, these files are deleted at the end.
 
-        `link` and `back` are the links without words in a line. `outside` is a host to connect to the system's network.
+        `link` and `back` are the words for links that are added without words. `outside` is a host to connect to the system's
+        network.
         """
         self.temporary = Folder() if folder is None else None
         super().__init__(Path(self.temporary.path if self.temporary else str(folder)).absolute(), link, back)
@@ -94,28 +98,30 @@ class Net(Described):
 
     @property
     def history(self) -> Path:
-        """The transcript of all links, for `dummynet audit` and `hinge look`."""
+        """The path to the links' transcript, for `dummynet audit` and `hinge look`."""
         return self.folder / "net.history"
 
     @property
     def socket(self) -> Path:
-        """The control socket, for `hinge change`, `hinge status` and `hinge exec`."""
+        """The path to the control socket, for `hinge change`, `hinge status` and `hinge exec`."""
         return self.folder / "control"
 
     # What is done to it.
 
     def obey(self, words: str, *, at: Optional[Time] = None) -> list[Obeyed]:
-        """Applies the words of an `at` line: at a moment if the net hasn't started, otherwise now. NetError: a line is refused."""
+        """Applies an event's words: now, or, if the net hasn't started, at the moment `at`. Returns the applied lines. NetError:
+        a line is refused."""
         if at is not None:
             self.describe(f"at {spelled_time(at)} {words}")
             return []
         self.start()
-        replies = [(Obeyed(one.moment / 1e9, one.line), one.refused) for one in self.asked(change=words).told or []]
-        for orders, refusal in replies:
-            if refusal:
-                raise NetError(f"{words}: {orders.line}: {explained(orders.line, refusal)}")
-        self.obeyed += [orders for orders, _ in replies]
-        return [orders for orders, _ in replies]
+        obeyed = list[Obeyed]()
+        for reply in self.asked(change=words).told or []:
+            if reply.refused:
+                raise NetError(f"{words}: {reply.line}: {explained(reply.line, reply.refused)}")
+            obeyed.append(Obeyed(reply.moment / 1e9, reply.line))
+        self.obeyed += obeyed
+        return obeyed
 
     def change(
         self,
@@ -127,7 +133,7 @@ class Net(Described):
         preset: Optional[str] = None,
         at: Optional[Time] = None,
     ) -> list[Obeyed]:
-        """Gives a link new words from this moment on; returns the applied lines."""
+        """Gives a link new words, now or at a moment; returns the applied lines."""
         return self.obey(f"{one} {two} {self.words(link, back, preset)}", at=at)
 
     def cut(
@@ -140,32 +146,33 @@ class Net(Described):
         port: str = "",
         at: Optional[Time] = None,
     ) -> list[Obeyed]:
-        """Makes the links of a host, or those to some hosts, lose all packets, for a length or until a heal; returns the applied
-        lines. The way "up" contains the packets that the host sends, and "down" the packets that the host receives; a port such as
-        "tcp port 7001" restricts the cut to its packets."""
+        """Makes a host's links, or only the links to the hosts `off`, lose all packets, for a time or until a heal; returns the
+        applied lines. The way "up" contains the packets that the host sends, and "down" the packets that the host receives. A
+        port such as "tcp port 7001" restricts the cut to the port's packets."""
         return self.obey(words_with_length("cut", host, *(["from"] if off else []), *off, way, port, lasting=lasting), at=at)
 
     def heal(self, host: str, *, off: Sequence[str] = (), way: str = "", port: str = "", at: Optional[Time] = None) -> list[Obeyed]:
-        """Ends a cut of the same links; returns the applied lines."""
+        """Ends a cut on the same links, way and port; returns the applied lines."""
         return self.obey(words_with_length("heal", host, *(["from"] if off else []), *off, way, port), at=at)
 
     def act(self, word: str, host: str, lasting: Optional[Time], at: Optional[Time]) -> list[Obeyed]:
-        """Returns the lines applied for a word about a host."""
+        """Applies an event on a host, such as a kill; returns the applied acts."""
         return self.obey(words_with_length(word, host, lasting=lasting), at=at)
 
     def kill(self, host: str, lasting: Optional[Time] = None, *, at: Optional[Time] = None) -> list[Obeyed]:
-        """Kills all processes on a host; returns the applied acts. The command starts again after this time, or by `restart`."""
+        """Kills all processes on a host; returns the applied acts. The host's command starts again after `lasting`, or by
+        `restart`."""
         return self.act("kill", host, lasting, at)
 
     def crash(self, host: str, lasting: Optional[Time] = None, *, at: Optional[Time] = None) -> list[Obeyed]:
         """Crashes a host: kills its processes and drops its disks' unsynced writes; returns the applied acts.
 
-        The command starts again at once, or after this time. Only in simulated time.
+        The host's command starts again at once, or after `lasting`. A crash needs simulated time.
         """
         return self.act("crash", host, lasting, at)
 
     def restart(self, host: str, *, at: Optional[Time] = None) -> list[Obeyed]:
-        """Starts a host's command again, after a kill if the command runs; returns the applied act."""
+        """Starts a host's command again; if the command still runs, kills it first. Returns the applied act."""
         return self.act("restart", host, None, at)
 
     def stop(self, host: str, lasting: Optional[Time] = None, *, at: Optional[Time] = None) -> list[Obeyed]:
@@ -173,14 +180,14 @@ class Net(Described):
         return self.act("stop", host, lasting, at)
 
     def cont(self, host: str, *, at: Optional[Time] = None) -> list[Obeyed]:
-        """Continues the processes on a host; returns the applied act."""
+        """Continues the stopped processes on a host; returns the applied act."""
         return self.act("cont", host, None, at)
 
     # What runs there.
 
     def start(self) -> Net:
-        """Starts the net if needed, and waits until the ports listen; returns the net. NetError: the net can't start, or ended
-        early."""
+        """Starts the net unless it runs, and waits until its ports listen; returns the net. NetError: the net can't start, or
+        ended early."""
         if self.process is not None:
             return self
         self.folder.mkdir(parents=True, exist_ok=True)
@@ -198,9 +205,11 @@ class Net(Described):
             "late": None if self.late is None else spelled_time(self.late),
             "outside": self.outside,
         }
-        more = [word for name, value in inputs.items() if value is not None for word in (f"--{name}", str(value))]
         read_end, self.leash = os.pipe()
-        words = ["net", str(file), "--transcripts", str(self.folder), "--logs", str(self.folder / "logs"), *more]
+        words = ["net", str(file), "--transcripts", str(self.folder), "--logs", str(self.folder / "logs")]
+        for name, value in inputs.items():
+            if value is not None:
+                words += [f"--{name}", str(value)]
         words += ["--control", str(self.socket), "--while-open", str(read_end)]
         self.is_running = True
         self.process = in_background(words, self.folder / "net.log", read_end)
@@ -209,6 +218,7 @@ class Net(Described):
         return self
 
     def wait_until_ready(self) -> None:
+        """Waits until the net replies. NetError: the net ended early; the message contains the reason."""
         assert self.process
         while not is_answered(str(self.socket)) and self.process.poll() is None:
             time.sleep(POLL)
@@ -221,14 +231,15 @@ class Net(Described):
             raise NetError(text or self.told() or "the net has ended") from None
 
     def asked(self, change: Optional[str] = None, status: bool = False) -> Reply:
-        """Returns the net's reply to a request. NetError: the net refuses the change, or doesn't reply."""
+        """Sends a request to the net; returns the reply. NetError: the net refuses the change, or doesn't reply."""
         try:
             return ask(str(self.socket), PATIENCE, change=change, status=status)
         except Wrong as wrong:
             raise NetError(str(wrong)) from None
 
     def popen(self, host: str, command: Command, **how: Any) -> "Process[Any]":
-        """Starts a command on a host, which ends with the net; returns the process. `how` is passed to subprocess.Popen."""
+        """Starts a command on a host; returns the process, which ends with the net. `how` contains arguments for
+        subprocess.Popen."""
         self.start()
         words = ["sh", "-c", command] if isinstance(command, str) else command
         return begun([*HINGE, "exec", str(self.socket), host, "--", *words], **how)
@@ -244,7 +255,7 @@ class Net(Described):
         env: Optional[Mapping[str, str]] = None,
         cwd: Union[str, Path, None] = None,
     ) -> "CompletedProcess[str]":
-        """Runs a command on a host; returns its output and status. CommandFailed: `check` is on, and the status isn't 0."""
+        """Runs a command on a host; returns its output and status. CommandFailed: the status isn't 0, with `check`."""
         stdin: Union[int, IO[str]] = NOTHING if input is None else PIPE
         process = self.popen(host, command, stdin=stdin, stdout=PIPE, stderr=PIPE, text=True, env=env, cwd=cwd)
         try:
@@ -261,34 +272,38 @@ class Net(Described):
     def address(self, host: str, version: int = 4) -> str:
         """Returns a host's main address for this IP version."""
         self.start()
-        return self.addresses()[host][version == 6]
+        return self.addresses()[host][1 if version == 6 else 0]
 
     def addresses(self) -> dict[str, list[str]]:
-        """Returns all addresses of a running net's hosts. The first two are a host's main addresses."""
-        ends = NetEnds(self.description) if self.description else None
-        return {name: ends.all_of(name) for name in ends.own} if ends else {}
+        """Returns all addresses of each host; the first two are the host's main addresses. Returns an empty dict before the
+        start."""
+        if self.description is None:
+            return {}
+        ends = NetEnds(self.description)
+        return {name: ends.all_of(name) for name in ends.own}
 
     def output(self, host: str) -> str:
         """Returns the output of a host's command so far."""
         return read_log(self.folder / "logs" / f"{host}.log")
 
     def last_lines(self, host: str) -> str:
+        """Returns the last lines that a host's command printed."""
         return lines("\n".join(f"  {line}" for line in self.output(host).splitlines()[-LAST_LINES:]))
 
     def status(self) -> dict[str, Any]:
-        """Returns the counts so far, or the whole run's after its end."""
+        """Returns the net's counts so far, or the whole run's counts after its end."""
         if self.process is not None and self.process.poll() is None:
             return self.asked(status=True).status or {}
         return read_object(self.folder / "net.json", "no summary of hinge net")
 
     def drawn_seed(self) -> int:
-        """The seed for random losses. `hinge net` chooses one if none was set."""
+        """Returns the seed for random losses, which `hinge net` draws if no seed was given."""
         return int(self.status()["seed"]) if self.seed is None else self.seed
 
     # Its end.
 
     def end(self) -> None:
-        """Ends the net: the hosts' commands get SIGTERM, and the summary and the history are complete."""
+        """Ends the net: the hosts' commands get SIGTERM, and `hinge net` completes the summary and the history."""
         if self.process is None or self.leash < 0:
             return
         os.close(self.leash)
@@ -300,7 +315,7 @@ class Net(Described):
             self.process.wait()
 
     def told(self) -> str:
-        """Returns the messages from `hinge net`, such as the summary of each way."""
+        """Returns the messages that `hinge net` printed, such as each way's counts."""
         text = read_log(self.folder / "net.log")
         return lines("\n".join(line.replace("hinge net: ", "", 1) for line in text.splitlines()))
 
@@ -322,7 +337,7 @@ class Net(Described):
         self.close()
 
     def close(self) -> None:
-        """Ends the net, and deletes the folder if `hinge` created it."""
+        """Ends the net, and deletes the folder if this object created the folder."""
         self.end()
         if self.temporary:
             self.temporary.remove()

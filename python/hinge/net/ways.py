@@ -9,7 +9,7 @@ from hinge.net.description import Description
 
 
 def links_by_host(net: Description) -> dict[str, list[tuple[int, str]]]:
-    """Returns each host's links, with their numbers and the host at the other end."""
+    """Returns each host's links: each link's number, and the host at the other end."""
     table: dict[str, list[tuple[int, str]]] = {name: [] for name in net.hosts}
     for number, link in enumerate(net.links):
         for name in link.ends:
@@ -18,7 +18,7 @@ def links_by_host(net: Description) -> dict[str, list[tuple[int, str]]]:
 
 
 class Hop(NamedTuple):
-    """The first hop of a route: the link to use, and the host that receives the packet.
+    """Describes a route's first hop: the link to use, and the host that receives the packet.
 
     If there are switches between both hosts, `host_link` is the receiver's link to the last switch.
     """
@@ -29,24 +29,24 @@ class Hop(NamedTuple):
 
 
 def first_hops(start: str, net: Description, links: dict[str, list[tuple[int, str]]]) -> dict[str, Hop]:
-    """Returns the first hop from a host to each other host; unreachable hosts are missing."""
+    """Returns the first hop on the route from a host to each reachable host."""
     table: dict[str, Hop] = {}
     queue = deque([start])
     while queue:
-        at = queue.popleft()
-        if at != start and not net.hosts[at].forwards:
+        host = queue.popleft()
+        if host != start and not net.hosts[host].forwards:
             continue
-        for number, other in links[at]:
+        for number, other in links[host]:
             if other == start or other in table:
                 continue
-            hop = table.get(at, Hop(number, other, number))
+            hop = table.get(host, Hop(number, other, number))
             table[other] = Hop(hop.link, other, number) if net.hosts[hop.host].is_switch else hop
             queue.append(other)
     return table
 
 
 class Gap(NamedTuple):
-    """Two hosts without a route between them, since a host with links to both doesn't forward packets."""
+    """Describes two hosts without a route between them, because the host `between` has links to both and doesn't forward packets."""
 
     start: str
     end: str
@@ -54,7 +54,7 @@ class Gap(NamedTuple):
 
 
 def gap(net: Description) -> Optional[Gap]:
-    """Returns the first gap at a host without a command, which was probably meant as a router."""
+    """Returns the first gap in a net at a host without a command, which was probably meant as a router; None without a gap."""
     links = links_by_host(net)
     for name, host in net.hosts.items():
         others = list(dict.fromkeys(other for _, other in links[name]))

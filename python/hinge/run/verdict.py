@@ -15,7 +15,7 @@ from hinge.run.system import is_simulated
 
 if TYPE_CHECKING:
     from hinge.events.kinds import TimedEvent
-    from hinge.net.acts import Done
+    from hinge.net.acts import FinishedAct
 
 WITHOUT_LIMIT = 20.0  # ms
 MOST_TOLD = 4  # how many hosts or texts a line names
@@ -36,14 +36,14 @@ class ActTimes(NamedTuple):
         return (self.came - self.due) / 1e6
 
 
-def times_of(act: Done, main: int) -> ActTimes:
+def times_of(act: FinishedAct, main: int) -> ActTimes:
     """Returns when an act was due and when it came; the main command started at `main` ns."""
     moment = act.act.moment
     due = moment.ns + main if moment.of_main else moment.ns
     return ActTimes(f"`{act.act.word} {act.act.host}`", due, act.moment)
 
 
-def late_acts(acts: Sequence[Done], main: Optional[int], limit: float) -> Iterator[str]:
+def late_acts(acts: Sequence[FinishedAct], main: Optional[int], limit: float) -> Iterator[str]:
     """Yields a remark if acts on hosts came later than `limit` ms after their requested moments, and a remark for each act that
     came in another order than requested. `main` is the ns at which the main command started."""
     times = [times_of(act, main or 0) for act in acts]

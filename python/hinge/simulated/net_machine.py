@@ -6,7 +6,7 @@ from pathlib import Path
 from typing import NamedTuple, Optional
 
 from hinge.events.forms import ACTS
-from hinge.net.acts import Done
+from hinge.net.acts import FinishedAct
 from hinge.net.clocks import clock_number
 from hinge.net.net_rooms import NetEnds, NetRooms
 from hinge.net.net_summary import NetRan, report_net, silent, status_without
@@ -28,7 +28,7 @@ class MachineMessages(NamedTuple):
     verdicts: "dict[str, MachineVerdict]"  # how the commands ended
     missing: str  # the port without which the main command didn't begin
     silent: "list[str]"
-    acts: "list[Done]"
+    acts: "list[FinishedAct]"
 
 
 class NetRun(NamedTuple):
@@ -56,8 +56,8 @@ class NetRun(NamedTuple):
         for wait in net.waits:
             kind = "optional" if wait.is_optional else "needed"
             texts += [str(self.rooms.index(wait.host)), str(wait.port), nanoseconds(wait.lasting), kind]
-        texts.append(str(len(order.made.acts)))
-        for act in order.made.acts:
+        texts.append(str(len(order.net_plan.acts)))
+        for act in order.net_plan.acts:
             base = "main" if act.moment.of_main else "start"
             host = str(self.rooms.index(act.host))
             texts += [base, str(act.moment.ns), act.word, ACTS[act.word].ending, host, str(act.fault), act.more]
@@ -81,7 +81,7 @@ class NetRun(NamedTuple):
             {name: verdict for name, verdict, _, by in hosts if by == "itself"},
             next((line for line, (wait, _) in zip(lines, waits) if not wait.is_optional), ""),
             lines,
-            [Done(int(row[2]), self.order.made.acts[int(row[1])], row[3] == "1") for row in rows if row[0] == "act"],
+            [FinishedAct(int(row[2]), self.order.net_plan.acts[int(row[1])], row[3] == "1") for row in rows if row[0] == "act"],
         )
 
     def ended(self, folder: Path) -> Optional[MachineVerdict]:

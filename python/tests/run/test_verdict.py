@@ -10,7 +10,7 @@ from linked import needs_rooms, run
 from hinge.events.forms import WORDS
 from hinge.events.idle import idle_events
 from hinge.events.kinds import PlannedAct, Moment
-from hinge.net.acts import Done
+from hinge.net.acts import FinishedAct
 from hinge.net.description import read_description
 from hinge.net.net_plan import NetPlan
 from hinge.run.verdict import Awaited, Waits, late_acts, verdict, waited_of
@@ -22,9 +22,9 @@ from in_a_folder import InAFolder
 MS = 10**6
 
 
-def done(word: str, asked: int, late: float, of_main: bool = True) -> Done:
+def done(word: str, asked: int, late: float, of_main: bool = True) -> FinishedAct:
     """Returns an act that was due this many ms after the main command's start at 1 s."""
-    return Done(round((asked + late + 1000 * of_main) * MS), PlannedAct(Moment(asked * MS, of_main, ""), word, "a"))
+    return FinishedAct(round((asked + late + 1000 * of_main) * MS), PlannedAct(Moment(asked * MS, of_main, ""), word, "a"))
 
 
 def ran(*came: int) -> Counts:
