@@ -1,4 +1,4 @@
-"""pytest fixtures: emulated links for tests in real and in simulated time, with a report when a test fails."""
+"""Provides pytest fixtures: emulated links for tests in real and in simulated time, with a report when a test fails."""
 
 from __future__ import annotations
 
@@ -35,7 +35,7 @@ MakeUdpPath = Callable[..., "UdpPath"]  # (server, there, back, preset=name, see
 
 
 def faults_file(path: str) -> str:
-    """Returns the path to a faults file. ArgumentTypeError: the file is missing, or a line is malformed."""
+    """Checks the faults in a file; returns the file's path. ArgumentTypeError: the file can't be read, or a line is malformed."""
     from hinge.fault_lines import read_faults
 
     try:
@@ -77,7 +77,8 @@ def link_seed(request: pytest.FixtureRequest) -> int:
 
 @pytest.fixture
 def emulated_links(request: pytest.FixtureRequest) -> Generator[list[Emulated], None, None]:
-    """Yields this test's links. An unlawful history is an error."""
+    """Yields the list in which this test's fixtures put their links; after the test, ends and audits the links. The test fails if a
+    history isn't lawful, an exception was never caught, or, in real time, a mark had no effect."""
     links: list[Emulated] = []
     request.node.stash[LINKS] = links
     yield links
@@ -102,7 +103,8 @@ UNMET = "what met nothing:"
 
 @pytest.fixture
 def udp_path(request: pytest.FixtureRequest, emulated_links: list[Emulated], link_seed: int, tmp_path: Path) -> MakeUdpPath:
-    """Makes UDP paths in real time: `udp_path(server, there, back=there)`, of a port or HOST:PORT and the options of two links."""
+    """Returns a function that makes a UDP path in real time: `udp_path(server, there, back=there)`. The server is a local port or
+    HOST:PORT; `there` and `back` are the options of the links to and from the server, or otherwise the mark `link`'s."""
     from hinge.testing.emulated import UdpPath
     from hingetulip_words.presets import either_way
 
@@ -150,7 +152,7 @@ def sim_net(request: pytest.FixtureRequest, emulated_links: list[Emulated], link
 @pytest.fixture
 def net(request: pytest.FixtureRequest, emulated_links: list[Emulated], link_seed: int, tmp_path: Path) -> Net:
     """Returns a net whose hosts run any programs, in real time, or in simulated time for tests with the mark `simulated`. Links
-    without words use the mark `link`."""
+    that the test makes without words have the words of the mark `link`."""
     from hinge.net import Net
     from hinge.testing.emulated import NetOfTest
 
@@ -167,7 +169,7 @@ def simulated_net(net: Net) -> Net:
 
 
 def in_simulated_time(test: Callable[..., Coroutine[object, object, None]]) -> Callable[..., None]:
-    """Returns a test that runs a coroutine in its network."""
+    """Returns a plain test that runs an asynchronous test in the network of the fixture sim_net."""
 
     @functools.wraps(test)
     def run(*words: object, sim_net: Network, **keywords: object) -> None:
@@ -178,7 +180,8 @@ def in_simulated_time(test: Callable[..., Coroutine[object, object, None]]) -> C
 
 @pytest.hookimpl(tryfirst=True)  # type: ignore[misc]
 def pytest_pycollect_makeitem(collector: pytest.Collector, name: str, obj: object) -> None:
-    """Collects coroutines with the fixture sim_net as plain tests in simulated time, so that no other plugin runs them."""
+    """Replaces an asynchronous test that has the fixture sim_net by a plain test in simulated time, so that no other plugin runs
+    the test. Other coroutines, such as a test's helpers, stay."""
     if not inspect.iscoroutinefunction(obj) or "sim_net" not in inspect.signature(obj).parameters:
         return
     is_test = getattr(collector, "istestfunction", None)  # of modules and classes
@@ -188,7 +191,8 @@ def pytest_pycollect_makeitem(collector: pytest.Collector, name: str, obj: objec
 
 @pytest.hookimpl(tryfirst=True)  # type: ignore[misc]
 def pytest_runtest_setup(item: pytest.Item) -> None:
-    """Refuses marks with wrong words and marks without effect, which would leave a test without its link."""
+    """Fails a test with a wrong word in its marks, and warns of marks without effect: either would leave the test without its
+    link."""
     fault = fault_of(item)
     if fault is not None:
         pytest.fail(fault, pytrace=False)
@@ -234,7 +238,7 @@ def pytest_runtest_makereport(item: pytest.Item, call: pytest.CallInfo[None]) ->
 
 
 def repeats(item: pytest.Item) -> bool:
-    """Returns whether a test may run again in the same process."""
+    """Returns whether an option (--link-shrink, --link-search) may run a test again in the same process."""
     return any(item.config.getoption(option) for option in ("--link-shrink", "--link-search"))
 
 
@@ -245,7 +249,7 @@ def seed_of(item: pytest.Item) -> int:
 
 
 def links_of(item: pytest.Item) -> list[str]:
-    """Returns the options of the mark `link` for `hinge run`."""
+    """Returns the options of `hinge run` for the words in a test's mark `link`, such as --up and `20ms`."""
     there, back = link_of(item)
     ways = ("--up", there), ("--down", there if back is None else back)
     return [word for option, text in ways if text.strip() for word in (option, text)]
@@ -253,8 +257,8 @@ def links_of(item: pytest.Item) -> list[str]:
 
 @pytest.hookimpl(tryfirst=True)  # type: ignore[misc]
 def pytest_runtest_protocol(item: pytest.Item, nextitem: Optional[pytest.Item]) -> Optional[bool]:
-    """Runs a test with the mark or the net `simulated` in a separate machine; inside the machine, runs the test as usual. With
-    --link-shrink and --link-search, tests with sim_net run again with other faults."""
+    """Runs a test with the mark or the net `simulated` in a separate machine; with --link-shrink or --link-search, runs a test with
+    sim_net again with other faults. Returns None for other tests and inside the machine: pytest then runs the test."""
     mark = item.get_closest_marker("simulated")
     names = getattr(item, "fixturenames", ())
     if mark is None and "simulated_net" in names:
@@ -272,7 +276,8 @@ def pytest_runtest_protocol(item: pytest.Item, nextitem: Optional[pytest.Item]) 
 
 
 def reports_of(item: pytest.Item, nextitem: Optional[pytest.Item], mark: Optional[pytest.Mark]) -> list[pytest.TestReport]:
-    """Returns the reports on a test in a machine, or on a test that is shrunk when it fails."""
+    """Runs a test in a machine, if `mark` is its mark `simulated`, or otherwise as --link-search or --link-shrink asks; returns the
+    reports on the test."""
     if mark is not None:
         from hinge.simulated.one_test import reports
 

@@ -1,5 +1,5 @@
-"""The cause of the least case's failure: its lost packets, all threads' calls around each pause, and each paused thread's place in the
-program."""
+"""The cause of the least case's failure: its lost packets, all threads' calls around each pause, and the place in the program at
+which each pause began."""
 
 from __future__ import annotations
 
@@ -28,6 +28,8 @@ MOST = 4  # lost packets and pauses that are told
 
 
 class Lost(NamedTuple):
+    """Describes a lost packet."""
+
     way: int
     packet: int  # among those of its way, from 1
     row: str  # of the transcript, behind the pipe
@@ -43,13 +45,13 @@ class Lost(NamedTuple):
 
 
 def way_names(what: "list[str]") -> "list[str]":
-    """Returns the names of a net's ways, or both ways of `hinge run`."""
+    """Returns the names of all ways (a way is one direction of a link), in a net or of `hinge run`."""
     return read_description(what[1]).ways() if what[0] == "net" else [*LINKS]
 
 
 def packets_lost(paths: "list[Path]", ways: int) -> "Optional[list[Lost]]":
-    """Returns the lost packets on these ways; None if packets also met queues, which changes their numbers, or if there are too
-    many. A cut's losses belong to the cut, which a search leaves out separately."""
+    """Returns the packets that were lost on the first ways, from the files of a transcript. Omits losses by cuts, which a search
+    leaves out separately. None: packets also met queues, which changes their numbers, or too many packets were lost."""
     count = Counter[int]()
     losses = list[Lost]()
     way = -1
@@ -69,7 +71,7 @@ def packets_lost(paths: "list[Path]", ways: int) -> "Optional[list[Lost]]":
 
 
 def lines_of_losses(what: "list[str]", losses: "list[Lost]") -> Iterator[str]:
-    """Yields an option or a net's line for each packet."""
+    """Yields an option or a net's line that loses this packet alone, for each packet."""
     names = way_names(what)
     for one in losses:
         begin = f"loss {names[one.way].replace(' > ', ' ')} up:list:" if what[0] == "net" else WORDS[one.way]
@@ -77,13 +79,13 @@ def lines_of_losses(what: "list[str]", losses: "list[Lost]") -> Iterator[str]:
 
 
 def losses_in(what: "list[str]", machine: Machine) -> "Optional[list[Lost]]":
-    """Returns the lost packets of a machine's transcript."""
+    """Returns the lost packets in a machine's transcript, as packets_lost does."""
     paths = sorted(machine.room.kept.glob(f"{MACHINE_HISTORY}*"), key=lambda path: (len(path.name), path.name))
     return packets_lost(paths, len(way_names(what)))
 
 
 class Repetition(NamedTuple):
-    """The least run's repetition, with its calls."""
+    """Holds the least run's repetition, with its calls and its lost packets."""
 
     ran: SummarizedRun
     rows: "list[CallRow]"
@@ -91,7 +93,8 @@ class Repetition(NamedTuple):
 
 
 def repetition_of(runner: Runner, case: Case) -> Repetition:
-    """Looks at the lost packets in a run with a transcript, which would change the summary."""
+    """Repeats the least run. A second repetition, with a transcript, shows the lost packets; in the first, a transcript would
+    change the summary."""
     rows, losses = list[CallRow](), list[Lost]()
     cores = OF_DEADLOCK if has_debugger() else NO_CORES
     ran = runner.case(case, RunFiles((f"keep {CALLS}",), cores), lambda machine: rows.extend(call_rows(machine.folder / "calls")))
@@ -102,8 +105,8 @@ def repetition_of(runner: Runner, case: Case) -> Repetition:
 
 
 def pause_place(runner: Runner, case: Case, call: int, process: int) -> str:
-    """Returns the place at which the thread paused at this call, from a run that ends there; empty if no debugger finds the
-    place."""
+    """Returns the place in the program at which a thread paused at this call, from a run that ends there; an empty text if no
+    debugger finds the place."""
     texts = list[str]()
 
     def look(machine: Machine) -> None:
@@ -115,7 +118,7 @@ def pause_place(runner: Runner, case: Case, call: int, process: int) -> str:
 
 
 def cause_lines(runner: Runner, case: Case, look: Repetition) -> Iterator[str]:
-    """Yields the cause as text."""
+    """Yields the lines of the cause: lost packets, then pauses with the calls around them."""
     names = way_names(runner.asked.what)
     yield from (one.text(names[one.way]) for one in look.losses[:MOST])
     if len(look.losses) > MOST:

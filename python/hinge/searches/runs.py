@@ -1,4 +1,4 @@
-"""The runs of a search. Each is a file in the search's folder, complete or missing, so that any job scheduler can make runs."""
+"""The runs of a search. Each run is a file in the search's folder, complete or missing, so that any job scheduler can make runs."""
 
 from __future__ import annotations
 
@@ -41,8 +41,8 @@ class SearchSettings(NamedTuple):
 
 
 class RunFiles(NamedTuple):
-    """Settings for a run whose machine a search examines afterwards: extra lines for /proc/pauses, the processes that leave a core,
-    and the transcript's path."""
+    """Holds settings for a run whose machine a search examines afterwards: extra lines for /proc/pauses, the kind of processes that
+    leave a core, and the transcript's path."""
 
     more: "tuple[str, ...]" = ()  # as in Settings
     cores: str = NO_CORES
@@ -53,7 +53,7 @@ PLAIN = RunFiles()
 
 
 class SummarizedRun(NamedTuple):
-    """A run and its summary."""
+    """Holds a run's status, the end of its output, and its summary."""
 
     status: int
     output: str
@@ -75,7 +75,8 @@ class SummarizedRun(NamedTuple):
         return self.has_run and not self.record.get("void") and self.name != WELL
 
     def remarks(self) -> "list[str]":
-        """Returns what a single run would warn of: servers that ended early beside a program that ended well, and no sure repetition."""
+        """Returns warnings about the run: commands that failed although the program ended well, and a repetition that may
+        differ."""
         servers = {} if self.failed else {"the server": self.record.get("server"), **(self.record.get("hosts") or {})}
         ends = [
             f"{name} ended with {one['status']} by itself"
@@ -85,6 +86,7 @@ class SummarizedRun(NamedTuple):
         return [*ends, *(["a second run may differ"] if self.has_run and self.record.get("repeatable") is False else [])]
 
     def told(self) -> str:
+        """Returns the run's end and the last line of output."""
         void = "void: " if self.record.get("void") else ""
         return f"{void}{self.name or f'status {self.status}'}: {self.last_line()}".rstrip(": ")
 
@@ -93,7 +95,7 @@ class SummarizedRun(NamedTuple):
 
 
 def command_words(settings: SearchSettings, what: "Sequence[str]", seed: int, pauses: Optional[str]) -> "list[str]":
-    """Returns the command line that runs this net or these options."""
+    """Returns the command line that runs a net or `run` with its options (`what`), with this seed and these pauses."""
     options = ["--simulated", "--scratch", "--seed", str(seed)]
     options += ["--pauses", pauses] if pauses else []
     options += ["--limit", settings.limit] if settings.limit else []
@@ -105,12 +107,12 @@ Look = Callable[[Machine], None]  # at one that is over, before its folder goes
 
 
 def simulated_options(words: "Sequence[str]") -> SimulatedOptions:
-    """Returns the options in a `hinge` command line."""
+    """Returns the options in a `hinge` command line, whose first word is `run` or `net`."""
     return run.command_line(words[1:]) if words[0] == "run" else net.command_line(words[1:])
 
 
 class Runner:
-    """Makes runs, each in a separate machine. No machine outlives the runner."""
+    """Makes runs, each in a separate machine. No machine outlives its run."""
 
     def __init__(self, options: SearchSettings) -> None:
         self.asked, self.kernel, self.running, self.is_over = options, usable_kernel(), set[Machine](), False
@@ -118,6 +120,7 @@ class Runner:
     def run(
         self, what: "Sequence[str]", seed: int, pauses: Optional[str], watch: RunFiles = PLAIN, look: Optional[Look] = None
     ) -> SummarizedRun:
+        """Makes a run and returns it. `look` is called with the machine after the run, before the machine's files are removed."""
         name, *words = command_words(self.asked, what, seed, pauses)
         options = simulated_options([name, "--quiet", *words])
         options = options.but(limit=options.limit or LONGEST, transcript=watch.transcript)
@@ -142,12 +145,13 @@ class Runner:
         return SummarizedRun(result.status, output[-OUTPUT:], result.record)
 
     def end(self) -> None:
-        """Ends the runs in progress, which then don't count."""
+        """Kills the machines of the runs in progress; the caller then ignores these runs."""
         self.is_over = True
         for machine in list(self.running):
             machine.end(SIGNALLED)
 
     def case(self, case: Case, watch: RunFiles = PLAIN, look: Optional[Look] = None) -> SummarizedRun:
+        """Makes the run of a case, as `run` does, and returns it."""
         if self.asked.net is None:
             return self.run(["run", *case.options()], case.seed, case.pauses(), watch, look)
         with file_beside(self.asked.net, case.net()) as file:
@@ -155,7 +159,7 @@ class Runner:
 
 
 class Runs:
-    """The folder of a search. The file run-SEED.json contains a seed's run."""
+    """Describes a search's folder. The file run-SEED.json contains a seed's run."""
 
     def __init__(self, folder: Path, runner: Runner) -> None:
         self.folder, self.runner = folder, runner
@@ -165,6 +169,7 @@ class Runs:
         return self.folder / f"run-{seed}.json"
 
     def make(self, seed: int) -> None:
+        """Makes a seed's run and writes its file, unless the search is over. Fault: hinge refused the run."""
         try:
             ran = self.runner.run(self.runner.asked.what, seed, self.runner.asked.pauses)
         except Fault:
@@ -186,6 +191,7 @@ class Runs:
         return [seed for seed in seeds if self.path(seed).exists()]
 
     def of(self, seed: int) -> SummarizedRun:
+        """Reads a seed's run. Fault: the file doesn't contain a run."""
         record = read_object(self.path(seed), NO_RUN)
         try:
             return SummarizedRun(int(record["status"]), str(record["output"]), dict(record["record"]))
@@ -193,7 +199,7 @@ class Runs:
             raise Fault(f"{self.path(seed)}: {NO_RUN}", ROWS) from None
 
     def make_all(self, seeds: "list[int]", at_once: int) -> None:
-        """Makes the missing runs."""
+        """Makes the missing runs of these seeds, `at_once` at a time."""
         todo = [seed for seed in seeds if not self.path(seed).exists()]
         bar = Bar("runs", len(todo))
         with ThreadPoolExecutor(at_once) as pool:

@@ -21,13 +21,15 @@ FAILED, NOT_AGAIN = 1, 76
 
 
 def write_failure(path: str, words: "list[str]", net: Optional[str], record: "dict[str, Any]") -> None:
+    """Writes the failure's file, which repeats a run: the command's words, the net's text if there is a net, and the run's
+    summary."""
     lines = {} if net is None else {NET_KEY: net.splitlines()}
     with writing(path) as file:
         file.write(json.dumps({WORDS_KEY: words, **lines, **record}, indent=1) + "\n")
 
 
 def show_runs(runs: Runs, numbers: "list[int]") -> "list[int]":
-    """Prints a table of the failed runs; returns their seeds."""
+    """Prints a line for each failed or void run, and counts; returns the seeds of the failed runs."""
     product, failure = runs.made(numbers), list[int]()
     remarks = dict[str, list[int]]()
     for seed in product:
@@ -46,7 +48,7 @@ def show_runs(runs: Runs, numbers: "list[int]") -> "list[int]":
 
 
 def cases_of(runner: Runner, seed: int, record: "dict[str, Any]") -> "Iterator[Case]":
-    """Yields a failing seed's cases: with a line for each lost packet, and with the words for losses."""
+    """Yields a failing seed's case in two forms: losses are single lost packets, if possible, and then the words for losses."""
     losses: "list[Optional[list[Lost]]]" = []
     what, pauses = runner.asked.what, runner.asked.pauses
     runner.run(what, seed, pauses, RunFiles(transcript=MACHINE_HISTORY), lambda machine: losses.append(losses_in(what, machine)))
@@ -56,7 +58,8 @@ def cases_of(runner: Runner, seed: int, record: "dict[str, Any]") -> "Iterator[C
 
 
 def smallest(runs: Runs, seed: int) -> "tuple[Case, int]":
-    """Returns the least case of a failing seed, and the number of runs. Fault: the seed's listed faults and pauses don't fail."""
+    """Returns the least case of a failing seed, and the number of runs. Fault: the seed doesn't fail in the same way with listed
+    faults and pauses."""
     runner, ran, trial = runs.runner, runs.of(seed), dict[Case, bool]()
 
     def fails(case: Case) -> bool:
@@ -73,11 +76,12 @@ def smallest(runs: Runs, seed: int) -> "tuple[Case, int]":
 
 
 def command_of(options: SearchSettings, what: "list[str]", seed: int, pauses: Optional[str]) -> str:
+    """Returns the command line as text for a shell."""
     return shlex.join(["hinge", *command_words(options, what, seed, pauses)])
 
 
 def tell_least(runner: Runner, name: str, case: Case, count: int, file: Path) -> None:
-    """Prints the least case, its cause, and the file that repeats it."""
+    """Writes the file that repeats the least case, and prints the case, the cause and the file's name."""
     options, look = runner.asked, repetition_of(runner, case)
     what = ["run", *case.options()] if options.net is None else ["net", str(options.net), "--quiet"]  # which a net is told inside
     net = None if options.net is None else case.net()
@@ -93,7 +97,7 @@ def tell_least(runner: Runner, name: str, case: Case, count: int, file: Path) ->
 
 
 def search(options: SearchSettings, seeds: list[int], at_a_time: int, failure: Path, folder: Path) -> int:
-    """Searches the seeds; returns the exit status, which shows whether a run failed."""
+    """Makes the seeds' runs, and shrinks the first failure. Returns the exit status, which shows whether a run failed."""
     runs = Runs(folder, Runner(options))
     try:
         runs.make_all(seeds, at_a_time)

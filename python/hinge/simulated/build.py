@@ -29,7 +29,7 @@ FAILED = 6
 
 
 def source() -> Optional[Path]:
-    """Returns the newest Linux source package that Debian has installed."""
+    """Returns the path of the newest installed source package of Linux, if any."""
 
     def by_version(path: Path) -> list[int]:
         return [int(word) for word in re.findall(r"\d+", path.name.partition(".tar")[0])]
@@ -39,13 +39,14 @@ def source() -> Optional[Path]:
 
 
 def has_static_library() -> bool:
-    """Returns whether cc can link static programs. For a missing file, cc prints the bare name."""
+    """Returns whether cc can link static programs. For a missing library, cc prints the bare name without a path."""
     words = ["cc", "-print-file-name=libc.a"]
     return shutil.which("cc") is not None and os.path.isabs(asked(words).text)
 
 
 def missing_packages(place: Optional[Path]) -> dict[str, str]:
-    """Returns everything that a build from this source lacks, with the Debian packages that contain it."""
+    """Returns the programs and files that a build from the source at `place` lacks, each with the Debian package that contains
+    it."""
     names = {name: package for name, package in NEEDED.items() if shutil.which(name) is None}
     if not has_static_library():
         names["libc.a"] = "libc6-dev"
@@ -55,9 +56,10 @@ def missing_packages(place: Optional[Path]) -> dict[str, str]:
 
 
 class Build:
-    """A build in a temporary folder."""
+    """Builds a kernel in a temporary folder, from the packed source at `place`, with `jobs` compilers at a time."""
 
     def __init__(self, place: Optional[Path], jobs: int) -> None:
+        """Checks that this system can build. Fault: a program or the source is missing. Missing: `place` isn't a file."""
         names = missing_packages(place)
         if place is None or names:
             raise Fault(f"needs {', '.join(names)}: apt-get install {' '.join(names.values())}", MISSING)
@@ -66,7 +68,8 @@ class Build:
         self.packed, self.jobs = place.resolve(), jobs
 
     def step(self, what: str, *words: "str | Path", where: Path) -> None:
-        """Runs a command. Fault: the command failed; its last lines are printed first."""
+        """Runs a command in the folder `where`; `what` names the step in messages. Fault: the command failed; its last lines are
+        printed first."""
         names = {"PATH": os.environ["PATH"], "HOME": str(where), "TMPDIR": str(where), "LC_ALL": "C", "ARCH": "um", **BUILD_VERSION}
         bar = Bar(f"steps of the build ({what})", ABOUT)
         last = list[str]()
@@ -84,6 +87,7 @@ class Build:
             raise Fault(f"{what}: {words[0]} ended with {process.returncode}", FAILED)
 
     def unpacked(self, folder: Path) -> Path:
+        """Unpacks the source into the folder; returns the source tree. Fault: the package doesn't contain a source of Linux."""
         say(f"unpacks {self.packed}")
         self.step("unpacking", "tar", "-xf", self.packed, where=folder)
         trees = [path for path in folder.iterdir() if (path / "Kconfig").is_file()]
@@ -102,6 +106,8 @@ class Build:
             raise Fault("this source of Linux has no time travel", FAILED)
 
     def compile(self, tree: Path, into: Path) -> None:
+        """Compiles the kernel of the tree, and writes the kernel and the files beside it (such as the checksum) to the folder
+        `into`."""
         say(f"compiles Linux {version_of(tree)}, some 9 minutes of processor time, by {self.jobs} at a time")
         self.step("compilation", "make", f"-j{self.jobs}", "linux", where=tree)
         self.step("stripping", "strip", "-o", into / "linux", "linux", where=tree)
@@ -111,7 +117,8 @@ class Build:
         shutil.copyfile(tree / "LICENSES" / "preferred" / "GPL-2.0", into / "COPYING")
 
     def sources(self, tree: Path) -> Iterator[str]:
-        """Yields everything that determines the kernel's bytes."""
+        """Yields lines that name everything on which the kernel's bytes depend: Linux's version, checksums, and the tools'
+        versions."""
         yield f"Linux {version_of(tree)}"
         for path in (self.packed, PATCH, CONFIG):
             yield f"{path.name}, SHA-256 {sha256_of(path)}"
@@ -119,7 +126,8 @@ class Build:
             yield asked(words).text.partition("\n")[0]
 
     def run(self) -> Iterator[Kernel]:
-        """Yields the new kernel, and after a trial the same kernel in its final place. Missing: there is no room."""
+        """Yields the new kernel in a temporary folder, so that the caller can try it; then the same kernel in its final folder.
+        Missing: the disk has too little room."""
         cache().mkdir(parents=True, exist_ok=True)
         with scratch() as place, scratch(cache()) as beside:
             if shutil.disk_usage(place).free < ROOM:
@@ -133,19 +141,20 @@ class Build:
 
 
 def begin_group() -> None:
+    """Makes this process, a new child, the leader of a process group that dies with its parent."""
     os.setpgid(0, 0)
     die_with_parent()
 
 
 def end_group(process: "Process[str]") -> None:
-    """Kills a process and its children, and waits until all have stopped writing into the build's folder."""
+    """Kills a process and its group, and waits until all have stopped writing into the build's folder."""
     os.killpg(process.pid, signal.SIGKILL)
     assert process.stdout
     process.stdout.read()  # to its end, which comes when the last of them is gone
 
 
 def add_init(kernel: Kernel) -> None:
-    """Compiles the first process of a kernel's machines. Fault: the compiler fails."""
+    """Compiles the program that is the first process in a kernel's machines. Fault: the compiler fails."""
     words = ["cc", "-std=c17", "-O2", "-static", "-s", "-o", str(kernel.init), *map(str, INIT)]
     with scratch() as place:  # for what a compiler leaves that is killed
         answer = asked(words, statuses=(0, 1), env={**os.environ, "TMPDIR": str(place)})
@@ -160,7 +169,8 @@ def version_of(tree: Path) -> str:
 
 
 def kept_as(new: Path, folder: Path) -> Kernel:
-    """Renames a new kernel's folder to its final name atomically; returns the kernel. An older kernel with that name is removed."""
+    """Moves a new kernel's folder to its final name; returns the kernel. An older kernel with that name is removed, by an atomic
+    exchange if the file system can do that."""
     if folder.exists():
         try:
             exchange(str(new), str(folder))

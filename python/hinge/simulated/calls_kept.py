@@ -1,4 +1,4 @@
-"""The last calls of a machine's processes and their pauses, in the order in which they began."""
+"""The last system calls and pauses of a machine's processes, in the order in which they began."""
 
 from __future__ import annotations
 
@@ -14,6 +14,8 @@ AROUND = 3  # calls before a pause, at its beginning, at its end and behind it t
 
 
 class CallRow(NamedTuple):
+    """Describes a thread's system call, or the begin or end of a thread's pause."""
+
     at: int  # ns of the machine
     end: int  # 0 where it didn't return
     process: int
@@ -24,6 +26,7 @@ class CallRow(NamedTuple):
     program: str
 
     def text(self, start: int) -> str:
+        """Returns the row as text, with its moment in seconds after `start`, which is in ns."""
         number = self.result if abs(self.result) < 1 << 31 else f"{self.result & (1 << 64) - 1:#x}"
         has_returned = self.end and self.result not in RESTARTED
         what = {
@@ -41,12 +44,13 @@ def call_row(line: str) -> CallRow:
 
 
 def call_rows(path: Path) -> "list[CallRow]":
-    """Returns the rows that a machine wrote to this file, or no rows if the machine was killed early."""
+    """Returns the rows in a machine's file; no rows if the machine was killed before it wrote the file."""
     return [call_row(line) for line in path.read_text(errors="replace").splitlines()] if path.exists() else []
 
 
 def around(rows: "list[CallRow]", place: int, start: int) -> Iterator[str]:
-    """Yields the calls around a pause: earlier calls, other threads' first and last calls during the pause, and later calls."""
+    """Yields the calls around the pause in row `place`: earlier calls, other threads' first and last calls during the pause, and
+    later calls. Moments count from `start`, in ns."""
     thread = rows[place].thread
     ends = (later for later in range(place + 1, len(rows)) if rows[later].thread == thread and rows[later].call == GOES_ON)
     end = next(ends, len(rows))
@@ -61,5 +65,5 @@ def around(rows: "list[CallRow]", place: int, start: int) -> Iterator[str]:
 
 
 def pauses_in(rows: "list[CallRow]") -> "list[int]":
-    """Returns the places at which pauses begin."""
+    """Returns the numbers of the rows in which pauses begin."""
     return [place for place, row in enumerate(rows) if row.call == PAUSES]

@@ -21,7 +21,7 @@ OWN_WAITS = 2  # that an interrupt itself makes at most
 
 
 class Look(NamedTuple):
-    """A snapshot of a process. Each system call makes the process wait once."""
+    """Describes a process at a moment. Each system call makes the process wait once."""
 
     waits: int
     used: float  # s
@@ -30,6 +30,7 @@ class Look(NamedTuple):
 
 
 def children(machine: int) -> list[int]:
+    """Returns the processes that a machine's kernel started; an empty list if the machine has ended."""
     try:
         return [int(word) for word in read_system(f"/proc/{machine}/task/{machine}/children").split()]
     except OSError:
@@ -37,6 +38,7 @@ def children(machine: int) -> list[int]:
 
 
 def looked(process: int) -> Optional[Look]:
+    """Returns the present state of a process, if the process still exists."""
     try:
         fields = read_system(f"/proc/{process}/stat").rpartition(")")[2].split()
         lines = read_system(f"/proc/{process}/status").splitlines()
@@ -48,26 +50,28 @@ def looked(process: int) -> Optional[Look]:
 
 class Interrupts:
     def __init__(self, machine: int) -> None:
-        """Interrupts the processes of the machine whose kernel is this process."""
+        """Prepares to interrupt the processes of a machine; `machine` is the process of the machine's kernel."""
         self.machine = machine
         self.count = 0
         self.last = dict[int, Look]()
         self.longest = 0.0  # s of processor time that a process computed without a call, as far as it was seen
 
     def looks(self) -> Iterator[tuple[int, Look]]:
+        """Yields the machine's processes with their present states."""
         for process in children(self.machine):
             look = looked(process)
             if look:
                 yield process, look
 
     def is_long(self, before: Look, look: Look) -> bool:
-        """Returns whether a process has been computing for a long time, or still is since its interrupt."""
+        """Returns whether a process has computed for a long time since the state `before`, or continues to compute after an
+        interrupt."""
         if before.is_interrupted:
             return look.is_running and look.waits - before.waits <= OWN_WAITS
         return look.is_running and look.waits == before.waits and look.used - before.used >= LONG
 
     def look(self) -> float:
-        """Interrupts processes that have been computing for a long time; returns the seconds until the next look."""
+        """Interrupts the processes that have computed for a long time; returns the seconds until the next look."""
         pause, now = PAUSE, dict[int, Look]()
         for process, look in self.looks():
             before = self.last.get(process, look)

@@ -30,6 +30,8 @@ BEGIN = "import sys; sys.path.insert(0, sys.argv.pop(1)); from hinge.net.begun i
 
 
 class Job(NamedTuple):
+    """Describes a machine's job: a command with its standard input, environment and rooms."""
+
     words: Sequence[str]
     input: Path  # a file that is its standard input
     is_one_stream: bool  # whether its output and its errors go to one place
@@ -37,15 +39,14 @@ class Job(NamedTuple):
     rooms: Sequence[str] = ()  # the plan of the rooms in which the command is, where it is in some
 
     def text(self, *settings: str) -> bytes:
-        """Returns the settings, user, folder, command, environment and rooms as NUL-terminated strings, which the machine's
-        first process reads.
-        """
+        """Returns the settings, user, folder, command, environment and rooms as NUL-terminated strings, which the machine's first
+        process reads."""
         user = [str(os.getuid()), str(os.getgid()), " ".join(map(str, os.getgroups())), f"{current_mask():o}"]
         words = [*settings, *user, folder(), str(len(self.words)), *self.words, *self.names, "", *(self.rooms or ["command"])]
         return words_in_bytes(words)
 
     def given(self) -> "dict[str, str]":
-        """Returns checksums of the data in the programs' memory. Only runs with equal checksums are the same."""
+        """Returns a checksum for each kind of data in the programs' memory. Only runs with equal checksums can be the same."""
         parts = {
             "words": words_in_bytes(self.words),
             "environment": words_in_bytes(self.names),
@@ -62,21 +63,21 @@ def words_in_bytes(words: Sequence[str]) -> bytes:
 
 
 def current_mask() -> int:
-    """Returns the file mode creation mask."""
+    """Returns this process's file mode creation mask (umask)."""
     present = os.umask(0o022)
     os.umask(present)
     return present
 
 
 def environment(is_clean: bool) -> list[str]:
-    """Returns the job's variables; if `is_clean`, only a few, in a fixed order."""
+    """Returns the job's variables as NAME=value; if `is_clean`, only a few, in a fixed order."""
     if is_clean:
         return [f"PATH={PATH}", *(f"{name}={os.environ[name]}" for name in sorted(CLEAN) if name in os.environ)]
     return [f"{name}={value}" for name, value in os.environ.items() if name not in OF_SHELLS | OF_SESSIONS]
 
 
 def folder() -> str:
-    """Returns the current folder. Missing: a machine needs this path for a folder."""
+    """Returns the current folder. Missing: the folder's path is below /dev, /proc, /run or /sys, which a machine doesn't share."""
     place = os.getcwd()
     if any(place == own or place.startswith(f"{own}/") for own in OWN_FOLDERS):
         raise Missing(f"--simulated: {place} isn't in the machine, whose {', '.join(OWN_FOLDERS)} are its own")
@@ -84,12 +85,14 @@ def folder() -> str:
 
 
 def words_of_net(options: NetOptions) -> list[str]:
-    """Returns the words that run a net inside with these options. They don't depend on Python's variables, and write no byte code."""
+    """Returns the command with which Python runs a net inside a machine. Python ignores its environment variables there, and writes
+    no byte code."""
     return [sys.executable, "-I", "-S", "-B", "-c", BEGIN, PACKAGES, json.dumps(vars(options))]
 
 
 def refuse_outside(options: SimulatedOptions, has_terminal: bool) -> None:
-    """Wrong: an option doesn't apply to a run in its own machine."""
+    """Refuses options that lead outside the machine, and a shell that would need a terminal. Wrong: there is such an option or
+    shell."""
     if options.leads_outside():
         raise Wrong("--outside, --to: simulated time has no way to the rest of the network, whose time is real")
     if options.control:
@@ -102,8 +105,8 @@ def refuse_outside(options: SimulatedOptions, has_terminal: bool) -> None:
 
 
 def root_of(options: SimulatedOptions) -> Optional[str]:
-    """Returns the folder of --root. Wrong: the path is no folder, or doesn't contain the current folder, in which the program
-    starts."""
+    """Returns the folder of --root, if given. Wrong: there is no such folder, or the folder doesn't contain the current one, in
+    which the program starts."""
     if options.root is None:
         return None
     place = os.path.realpath(options.root)
@@ -117,10 +120,10 @@ def root_of(options: SimulatedOptions) -> Optional[str]:
 
 
 def limit_in_ns(options: SimulatedOptions) -> int:
-    """Returns --limit in ns, or 0."""
+    """Returns --limit in ns; 0 without the option."""
     return 0 if options.limit is None else duration(options.limit, "--limit")
 
 
 def real_limit_of(options: SimulatedOptions) -> Optional[float]:
-    """Returns --real-limit in seconds."""
+    """Returns --real-limit in seconds, if given."""
     return None if options.real_limit is None else duration(options.real_limit, "--real-limit") / 1e9

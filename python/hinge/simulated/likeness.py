@@ -1,4 +1,4 @@
-"""The check whether a run got the same input as an earlier one, using the earlier summary."""
+"""Compares the input of a run with an earlier run's, by both summaries."""
 
 from __future__ import annotations
 
@@ -14,7 +14,7 @@ TIMES = ("simulated", "spun")  # what two equal runs have in common
 
 
 def earlier(path: str) -> "dict[str, Any]":
-    """Returns the summary of an earlier run in simulated time. Wrong: the file isn't one, or can't be read."""
+    """Returns the summary of an earlier run in simulated time. Wrong: the file can't be read, or isn't such a summary."""
     strange = "no summary of a run in simulated time, as --json writes it"
     try:
         record = read_object(path, strange)
@@ -28,15 +28,15 @@ def earlier(path: str) -> "dict[str, Any]":
 
 
 def what_differs(one: "dict[str, Any]", other: "dict[str, Any]") -> "list[str]":
-    """Returns the names of the inputs that differ."""
+    """Returns the names of the inputs in which two summaries differ."""
     return [name for name in GIVEN if one.get(name) != other.get(name)] + [
         name for name in one["given"] if one["given"][name] != other["given"].get(name)
     ]
 
 
 def of_files(before: "dict[str, Any]", present: "dict[str, Any]") -> str:
-    """Tells the first file that differs, in the order in which the earlier run opened them, followed by the other run's. What a run
-    changed has no checksum of what the run read."""
+    """Returns a text about the first file in which two summaries differ, in the order in which the earlier run opened the files,
+    and then the present run. A file that a run changed counts last, since its earlier checksum is unknown."""
     one, other = before.get("files"), present["files"]
     if not isinstance(one, dict):
         return ""
@@ -59,6 +59,7 @@ def of_files(before: "dict[str, Any]", present: "dict[str, Any]") -> str:
 
 
 def remarks(path: str, before: "dict[str, Any]", present: "dict[str, Any]") -> Iterator[str]:
+    """Yields remarks that compare the present summary with the earlier one, which is the file at `path`."""
     differing = what_differs(before, present)
     text = f"other {', '.join(differing)}" if differing else "the same words, environment, folder, input and kernel"
     if WORDS_KEY in before and isinstance(before.get("ended"), dict):

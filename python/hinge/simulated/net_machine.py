@@ -1,4 +1,4 @@
-"""A net in a simulated machine, whose first process makes the hosts from a plan of texts (net.c), and that process's messages."""
+"""A net in a simulated machine. The machine's first process creates the hosts from texts (net.c), and writes messages."""
 
 from __future__ import annotations
 
@@ -21,7 +21,7 @@ from hinge.simulated.verdict import ITSELF, MachineVerdict, of_wait
 
 
 class MachineMessages(NamedTuple):
-    """The first process's messages on a net."""
+    """Holds the messages of a machine's first process about a net."""
 
     main: Optional[int]  # ns, at which the main command began
     endings: "dict[str, Ended]"
@@ -32,17 +32,18 @@ class MachineMessages(NamedTuple):
 
 
 class NetRun(NamedTuple):
-    """A run of `hinge net` without Python inside, as LinkRun."""
+    """Describes a run of `hinge net` in a machine without Python, as LinkRun does for `hinge run`."""
 
     order: NetOrder
 
     @property
     def rooms(self) -> "list[str]":
-        """Returns the hosts; the main host is the last."""
+        """Returns the names of the hosts; the main host is the last."""
         net = self.order.net
         return sorted(NetEnds(net).own, key=lambda name: name == net.main)
 
     def texts(self) -> "list[str]":
+        """Returns the texts that the machine's first process reads: the rooms, commands, waits for ports and acts."""
         net, order, options = self.order.net, self.order, self.order.options
         with Steps(root_of(options) or "") as steps:
             rooms = NetRooms(net, options.mtu)
@@ -64,7 +65,7 @@ class NetRun(NamedTuple):
         return texts
 
     def messages(self, folder: Path) -> Optional[MachineMessages]:
-        """Returns the first process's messages, or None if the links ended at once."""
+        """Returns the first process's messages, if any."""
         rows = [line.split() for line in first_process_lines(folder)]
         if not rows:
             return None
@@ -85,7 +86,8 @@ class NetRun(NamedTuple):
         )
 
     def ended(self, folder: Path) -> Optional[MachineVerdict]:
-        """As the main command did, or where there is none as the first that didn't end well."""
+        """Returns the main command's verdict, if that command ended by itself; without a main command, the verdict on the first
+        command that failed."""
         result = self.messages(folder)
         if result is None:
             return None
@@ -96,6 +98,8 @@ class NetRun(NamedTuple):
         return next((one for one in result.verdicts.values() if one.status), MachineVerdict(ITSELF, 0))
 
     def report(self, folder: Path, summary: Path, verdict: Optional[MachineVerdict], tell: Tell) -> int:
+        """Reports on the net, writes the summary to a file, and returns the run's status. ValueError: the first process wrote no
+        messages."""
         result, ends = self.messages(folder), NetEnds(self.order.net)
         if result is None:
             raise ValueError(folder)
@@ -111,7 +115,7 @@ class NetRun(NamedTuple):
 
 
 def net_run(options: NetOptions, seed: int, transcript: Optional[str]) -> Optional[NetRun]:
-    """Returns None if the net needs Python inside, for disks."""
+    """Converts the options of `hinge net` into a run in a machine; None if a host has disks, which need Python in the machine."""
     net = net_of(options)
     if any(host.disks for host in net.hosts.values()):
         return None

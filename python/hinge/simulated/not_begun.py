@@ -1,4 +1,4 @@
-"""The cause, in a line, why a machine ended before its job: its kernel's last words, and this process's limits."""
+"""Explains in a line why a machine ended before its job, from its kernel's last messages and this process's limits."""
 
 from __future__ import annotations
 
@@ -19,21 +19,21 @@ NO_ROOM = re.compile(r"No space left on device|errno = -28\b")
 
 
 def system_limit(kind: int) -> Optional[int]:
-    """Returns a limit on this process, or None."""
+    """Returns a limit on this process, if there is one."""
     soft, _ = resource.getrlimit(kind)
     return None if soft == resource.RLIM_INFINITY else soft
 
 
 def raise_limits() -> None:
-    """Raises the limits of this process as far as the system allows, since the kernel's process holds all files of a machine's
-    programs, and each of these is a process here."""
+    """Raises the limits of this process as far as the system allows. The kernel's process opens all files of a machine's programs,
+    and each program is a process of this system."""
     for kind, _, _, _ in NEEDED:
         _, most = resource.getrlimit(kind)
         resource.setrlimit(kind, (most, most))
 
 
 def too_few() -> Optional[str]:
-    """Returns the limit that a machine would reach at once or in the middle of a run, if any."""
+    """Returns a message about a limit that is too low for any machine, if any."""
     for kind, what, option, least in NEEDED:
         _, most = resource.getrlimit(kind)
         if most != resource.RLIM_INFINITY and most < least and (kind != resource.RLIMIT_NPROC or os.geteuid()):
@@ -42,7 +42,7 @@ def too_few() -> Optional[str]:
 
 
 def why(log: str, memory: int) -> Optional[str]:
-    """Returns the cause, if it is known; `memory` is the machine's size in bytes."""
+    """Returns the cause of a machine's early end, if known. `memory` is the machine's memory in bytes."""
     size, addresses = system_limit(resource.RLIMIT_FSIZE), system_limit(resource.RLIMIT_AS)
     if TRACED.search(log):
         return (

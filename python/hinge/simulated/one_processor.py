@@ -26,19 +26,21 @@ def waited(process: int) -> float:
 
 class OneProcessor:
     def __init__(self) -> None:
-        """Chooses one of this process's allowed processors; any processor if the system doesn't report waiting times."""
+        """Chooses one of this process's allowed processors, if the system reports waiting times."""
         self.allowed = sorted(os.sched_getaffinity(0)) if os.path.exists("/proc/self/schedstat") else []
         self.present = choice(self.allowed) if self.allowed else -1
         self.seen, self.waited = time.monotonic(), 0.0
 
     def take(self, process: int = 0) -> None:
-        """Moves a process and its future children (0: the caller) to the processor, if the system permits that."""
+        """Moves a process (0: the caller) and its future children to the chosen processor, if there is one and the system permits
+        that."""
         with suppress(OSError):
             if self.allowed:
                 os.sched_setaffinity(process, {self.present})
 
     def is_left(self, now: float, wait: float) -> bool:
-        """Returns whether the time since the last look was spent waiting, so that another processor should be chosen."""
+        """Chooses another processor if the kernel waited for this one for a large part of the time since the last look. Returns
+        whether another was chosen."""
         if len(self.allowed) < 2 or now - self.seen < SPAN:
             return False
         share = (wait - self.waited) / (now - self.seen)
@@ -49,7 +51,7 @@ class OneProcessor:
         return True
 
     def look(self, kernel: int) -> None:
-        """Moves a machine to another processor if its kernel waited much. Ended machines are ignored."""
+        """Moves a machine to another processor if its kernel waited for long. Ignores a machine that has ended."""
         with suppress(OSError, IndexError):
             if self.is_left(time.monotonic(), waited(kernel)):
                 self.take(kernel)  # first, since what it begins is where it is

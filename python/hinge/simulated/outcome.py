@@ -15,6 +15,8 @@ Record = dict[str, Any]
 
 
 class RunOutcome(NamedTuple):
+    """Describes a run after its end: its length, and everything on which a repetition depends."""
+
     ended: MachineEnded
     real: float  # s
     interrupts: int
@@ -27,6 +29,7 @@ class RunOutcome(NamedTuple):
 
     @classmethod
     def of(cls, machine: Machine, endings: MachineEnded, settings: Settings) -> RunOutcome:
+        """Returns the outcome of a machine's run."""
         real = machine.real()
         interrupts = machine.interrupts
         hides = machine.hides_the_processor
@@ -36,7 +39,7 @@ class RunOutcome(NamedTuple):
         return cls(endings, real, interrupts.count, interrupts.longest, hides, settings, given, pauses, random)
 
     def differences(self) -> Iterator[str]:
-        """Why a second run may differ."""
+        """Yields the reasons why a second run may differ."""
         if self.interrupts:
             yield f"a process computed for {LONG:g} s without a call of the system, until {self.interrupts} interrupts"
         elif self.longest >= NEAR:
@@ -57,7 +60,7 @@ class RunOutcome(NamedTuple):
         return f"simulated {self.ended.simulated / 1e9:.6f} s in {self.real:.2f} s, {text}; {second}"
 
     def lines(self) -> Iterator[str]:
-        """Yields the report as text."""
+        """Yields the lines of the report: the pauses (each, if there are few), then the length."""
         if self.pauses and self.settings.pauses:
             text = self.pauses
             yield (
@@ -69,6 +72,7 @@ class RunOutcome(NamedTuple):
         yield self.line()
 
     def pauses_record(self) -> "dict[str, Any]":
+        """Returns the summary's entry on the pauses, if there were pauses."""
         if not (self.pauses and self.settings.pauses):
             return {}
         asked = self.settings.pauses
@@ -77,7 +81,7 @@ class RunOutcome(NamedTuple):
         return {"pauses": {"asked": asked.asked, **counts, "first": first}}
 
     def record(self, kernel: Kernel) -> Record:
-        """Returns the record for JSON, with times in seconds."""
+        """Returns the outcome's entries in the summary, with times in seconds."""
         return {
             "simulated": self.ended.simulated / 1e9,
             "real": round(self.real, 3),
@@ -95,6 +99,6 @@ class RunOutcome(NamedTuple):
 
 
 def processor() -> str:
-    """Returns the model of this system's processor."""
+    """Returns the model name of this system's processor."""
     lines = read_system("/proc/cpuinfo").splitlines()
     return next((line.partition(":")[2].strip() for line in lines if line.startswith("model name")), "")

@@ -1,6 +1,6 @@
-"""Programs that question the processor directly for values that no seed draws. Such code contains the instruction for random
-numbers but doesn't ask whether the processor offers it, as with the compiler's -march=native; code that asks learns that the
-processor doesn't. For the processor's number such code contains `lsl`."""
+"""Finds programs that ask the processor directly for values that no seed draws. Such a program contains the instruction for random
+numbers, but doesn't ask whether the processor offers the instruction, for example if the compiler's option was -march=native. A
+program that asks learns that the processor doesn't. The instruction `lsl` reads the processor's number."""
 
 from __future__ import annotations
 
@@ -52,7 +52,7 @@ def segment_parts(file: BinaryIO, begin: int, length: int) -> Iterator[bytes]:
 
 
 def taken_by(file: BinaryIO) -> str:
-    """Returns the direct processor uses in this file's code, or an empty text."""
+    """Returns the value for which the code in a file asks the processor directly; otherwise an empty text."""
     draws, asks = False, False
     for part in (part for begin, length in [*segments(file)] for part in segment_parts(file, begin, length)):
         if NUMBER.search(part):
@@ -63,7 +63,7 @@ def taken_by(file: BinaryIO) -> str:
 
 
 def taken(path: str) -> str:
-    """Returns the direct processor uses in a program's file, or an empty text."""
+    """Returns the value for which the program at a path asks the processor directly; otherwise an empty text."""
     try:
         status = os.stat(path)
         key = (status.st_dev, status.st_ino, status.st_size, status.st_mtime_ns)
@@ -76,6 +76,6 @@ def taken(path: str) -> str:
 
 
 def random_programs(folder: Path, root: Optional[str]) -> "list[str]":
-    """Those that the machine in this folder read, each as `PATH takes ..`."""
+    """Returns a text `PATH takes ..` for each file that the machine in this folder read and that asks the processor directly."""
     names = dict.fromkeys(name for name, is_there in paths_told(folder, root) if is_there)
     return [f"{name} takes {what}" for name in names for what in [taken(f"{root or ''}{name}")] if what]

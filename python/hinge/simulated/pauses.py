@@ -25,7 +25,7 @@ NO_PAUSES = "neither pauses one by one, as 1034-16ms,2200+0.5s,2304+5us@250, nor
 
 
 class Given(NamedTuple):
-    """A requested pause."""
+    """Describes a pause that the user listed or the seed drew."""
 
     call: int  # its number, among those that may pause
     where: str
@@ -33,22 +33,25 @@ class Given(NamedTuple):
     steps: int = 0  # instructions behind the call, where other processes have the same memory
 
     def word(self) -> str:
+        """Returns the pause in the form of --pauses."""
         return f"{self.call}{'-' if self.where == 'before' else '+'}{self.ns}ns" + (f"@{self.steps}" if self.steps else "")
 
 
 class Pauses(NamedTuple):
+    """Holds the value of --pauses, and the pauses that result."""
+
     asked: str  # as the option has it
     given: "tuple[Given, ...]"
 
     def lines(self) -> Iterator[str]:
-        """Yields the lines for the kernel, which draws no pauses: 0 in 1 call, with the seed 0."""
+        """Yields lines for the kernel. The first keeps the kernel from drawing pauses itself: 0 in 1 call, with the seed 0."""
         yield "0 1 0"
         for one in self.given:
             yield f"{one.call} {one.where} {one.ns}" + (f" {one.steps}" if one.steps else "")
 
 
 class Paused(NamedTuple):
-    """One pause; times are in ns of the machine."""
+    """Describes a pause that a process made; times are in ns of the machine."""
 
     at: int
     number: int  # of the call, among those that may pause
@@ -63,6 +66,7 @@ class Paused(NamedTuple):
         return Given(self.number, self.where, self.length, self.steps)
 
     def text(self) -> str:
+        """Returns a line of the report on this pause."""
         return (
             f"{self.given().word()}: process {self.process} ({self.program}) paused for {self.length / 1e6:.3f} ms "
             f"{several(self.steps, 'instruction') + ' ' if self.steps else ''}{self.where} {self.call}"
@@ -70,7 +74,7 @@ class Paused(NamedTuple):
 
 
 class PausesMade(NamedTuple):
-    """A machine's final report: the number of calls that could pause, and the first pauses."""
+    """Describes a machine's pauses: the calls that could pause, the number and the sum of the pauses, and the first of them."""
 
     calls: int
     amount: int
@@ -79,7 +83,8 @@ class PausesMade(NamedTuple):
 
 
 def given(text: str) -> "tuple[Given, ...]":
-    """Returns listed pauses in call order, at most one per call; None if the text has another form."""
+    """Reads listed pauses, and returns them in the order of their calls. Returns no pauses if the text has another form, two pauses
+    are at the same call, or there are too many. Wrong: a pause's length is no time."""
     words = [re.fullmatch(r"(\d{1,12})([-+])([\d.]{1,20}[mun]?s)(?:@(\d{1,6}))?", word, re.ASCII) for word in text.split(",")]
     items = {
         Given(int(one[1]), "before" if one[2] == "-" else "behind", duration(one[3]), int(one[4] or 0)) for one in words if one
@@ -97,7 +102,8 @@ def number_from_text(text: str) -> int:
 
 
 def drawn_pauses(seed: int) -> Iterator[Given]:
-    """Pauses that get rarer, so that few calls have some, until they are as rare as the seed says."""
+    """Yields the pauses that a seed draws. Their distances grow up to the seed's maximum, so that short runs pause, too, and few
+    calls pause."""
     rare, longest, are_long = (number_from_text(f"{what} {seed}") for what in ("how often", "longest", "how long"))
     most = 2 ** (rare % (RAREST - OFTENEST + 1) + OFTENEST)
     are_stepped = number_from_text(f"between {seed}") % 2  # by half of the seeds pauses are between calls
@@ -114,6 +120,7 @@ def drawn_pauses(seed: int) -> Iterator[Given]:
 
 
 def pauses_of(word: Optional[str], seed: int) -> Optional[Pauses]:
+    """Returns the pauses for the option --pauses, if given."""
     if word is None:
         return None
     return Pauses(word, tuple(drawn_pauses(seed)) if word == DRAWN else given(word))
@@ -125,7 +132,7 @@ def paused(line: str) -> Paused:
 
 
 def pauses_made(path: Path) -> Optional[PausesMade]:
-    """Returns a machine's report in this file, if the machine had pauses."""
+    """Returns a machine's report on its pauses, if there were any."""
     if not path.exists():
         return None
     first, *others = path.read_text(errors="replace").splitlines()

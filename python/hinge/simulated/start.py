@@ -1,4 +1,4 @@
-"""Starts a `hinge` command again in a simulated machine, and reports on it."""
+"""Starts a `hinge` command again in a simulated machine, and reports on the run."""
 
 from __future__ import annotations
 
@@ -57,6 +57,7 @@ InRooms = Union[LinkRun, "NetRun"]
 
 
 def settings_of(options: SimulatedOptions, seed: int) -> Settings:
+    """Returns the settings of a machine for these options, with a seed's pauses."""
     at = date(BEGINNING) if options.at is None else options.at
     memory, cpu = options.memory or size(MEMORY), options.cpu or "stable"
     scratch = options.scratch or options.twice
@@ -66,8 +67,8 @@ def settings_of(options: SimulatedOptions, seed: int) -> Settings:
 
 
 def inside(options: NetOptions, seed: int) -> NetOptions:
-    """Returns the options inside for a net with disks, whose rooms Python creates there. There any user may use a link, and a
-    transcript is always a new file, copied at the end, since an existing one would show in the run. The launcher's own options are
+    """Returns the options with which Python runs a net with disks inside the machine. Any user may use a link there, and a
+    transcript is always a new file, copied at the end, since an existing file could influence the run. The launcher's options are
     left out: the words are in the programs' memory, and mustn't change the run."""
     ours = dict.fromkeys(("kept", "pauses", "real_limit", "limit", "like", "root"))
     files = {"transcript": transcript_of(options), "json": f"{KEPT}/{MACHINE_SUMMARY}"}
@@ -80,7 +81,7 @@ def transcript_of(options: SimulatedOptions) -> Optional[str]:
 
 
 class Planned(NamedTuple):
-    """A planned run in a machine. Only a net with disks lacks rooms, since Python creates these in the machine."""
+    """Describes a planned run in a machine. A net with disks has no rooms here, since Python creates its rooms in the machine."""
 
     options: SimulatedOptions
     seed: int
@@ -88,6 +89,7 @@ class Planned(NamedTuple):
     rooms: Optional[InRooms]
 
     def job(self, inputs: Path, is_one_stream: bool) -> Job:
+        """Returns the machine's job; `inputs` is the file with its standard input."""
         names = environment(self.options.clean_env)
         if self.rooms:
             return Job(self.options.command, inputs, is_one_stream, names, self.rooms.texts())
@@ -96,6 +98,7 @@ class Planned(NamedTuple):
 
 
 def planned(options: SimulatedOptions) -> Planned:
+    """Plans a run with these options, and draws a seed unless given. Wrong: there is --root with disks."""
     seed = drawn_seed(options.seed)
     rooms: Optional[InRooms] = None
     if isinstance(options, RunOptions):
@@ -111,7 +114,7 @@ def planned(options: SimulatedOptions) -> Planned:
 
 @contextmanager
 def ending(machines: "list[Machine]") -> Iterator[list[int]]:
-    """Yields the list of signals that came; each also ends the machines immediately."""
+    """Yields the list of the signals that come (SIGINT, SIGTERM and SIGHUP). Each signal also kills the machines."""
     came: list[int] = []
 
     def end(number: int, frame: object) -> None:
@@ -140,7 +143,7 @@ def hand_over(machine: Machine, transcript: Optional[str]) -> None:
 
 
 def verdict_of(machine: Machine, rooms: Optional[InRooms], summary: "dict[str, Any]") -> Optional[MachineVerdict]:
-    """Returns the program's verdict; None if it didn't start."""
+    """Returns the verdict on the program: how the program ended, or why it didn't. None: the program didn't start."""
     endings, start = machine.ended(), BOOTED * 10**9
     if machine.cut is not None:
         stood = machine.stood()
@@ -157,13 +160,13 @@ def verdict_of(machine: Machine, rooms: Optional[InRooms], summary: "dict[str, A
 
 
 def told_simulated(endings: MachineEnded, verdict: Optional[MachineVerdict]) -> MachineEnded:
-    """Returns the machine's result, up to a deadlock if there was one."""
+    """Returns the machine's result; after a deadlock, the simulated time is the deadlock's moment."""
     is_dead = verdict is not None and verdict.by == DEADLOCK and verdict.at is not None
     return endings._replace(simulated=round(verdict.at * 1e9)) if is_dead else endings  # type: ignore[union-attr, operator]
 
 
 def told_cut(verdict: MachineVerdict, options: SimulatedOptions) -> Iterator[str]:
-    """Yields messages about a program that didn't end, unless the user ended the run."""
+    """Yields messages about a program that didn't end by itself, except if somebody ended the run from outside."""
     if verdict.by == REAL_LIMIT:
         yield f"it was ended after {real_limit_of(options):g} s of real time, by --real-limit"
     elif verdict.by != OUTSIDE:
@@ -171,7 +174,7 @@ def told_cut(verdict: MachineVerdict, options: SimulatedOptions) -> Iterator[str
 
 
 class Reported(NamedTuple):
-    """A run's result: its status and its record for programs."""
+    """Holds a run's result: status, verdict, and the record for the summary."""
 
     status: int
     verdict: Optional[MachineVerdict]
@@ -185,13 +188,15 @@ def has_begun(machine: Machine, options: SimulatedOptions, verdict: MachineVerdi
 
 
 def summary_of(machine: Machine) -> "dict[str, Any]":
+    """Returns the summary that was written in the machine; otherwise an empty dict."""
     path = machine.room.kept / MACHINE_SUMMARY
     result = json.loads(path.read_text()) if path.exists() else {}
     return result if isinstance(result, dict) else {}
 
 
 def reported(machine: Machine, plan: Planned, kernel: Kernel, files: bool, is_told: bool = True) -> Reported:
-    """Reports a run, unless it should be quiet. Missing: the kernel doesn't support pauses, or the machine failed early."""
+    """Prints the report on a run, and returns the result, whose record contains the opened files if `files`. If not `is_told`,
+    prints no report on links and the program's end. Missing: the kernel doesn't support pauses, or the machine failed early."""
     options = plan.options
     settings = plan.settings
     endings = machine.ended()
@@ -224,7 +229,8 @@ def reported(machine: Machine, plan: Planned, kernel: Kernel, files: bool, is_to
 
 
 def report_of_machine(machine: Machine, plan: Planned, kernel: Kernel) -> int:
-    """Reports a run; returns its status. OSError: the disk for its output is full."""
+    """Copies the transcript, reports on a run, and writes the summary; returns the run's status. OSError: some output couldn't be
+    written, such as to a full disk."""
     options = plan.options
     hand_over(machine, options.transcript)
     if (fault := machine.lost()) and fault.errno != errno.EPIPE:
@@ -242,7 +248,7 @@ def report_of_machine(machine: Machine, plan: Planned, kernel: Kernel) -> int:
 
 
 def run_simulated(options: SimulatedOptions) -> int:
-    """Runs a link or a net with these options; returns its status."""
+    """Runs a link or a net in simulated time, and with --twice a second time beside; returns the status."""
     refuse_outside(options, has_terminal())
     if options.like:
         earlier(options.like)  # so that a wrong one is told before a machine is made

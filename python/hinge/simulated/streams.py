@@ -22,7 +22,7 @@ PATIENCE = 2.0  # s until it is told that the input hasn't ended
 
 
 class Copier(threading.Thread):
-    """Copies a growing file to a descriptor. Copied parts free their memory, unless the file is kept."""
+    """Copies a growing file to a descriptor in a thread. Copied parts are removed from the file's memory, unless `keeps`."""
 
     def __init__(self, path: Path, to: int, keeps: bool) -> None:
         super().__init__(daemon=True)
@@ -49,6 +49,7 @@ class Copier(threading.Thread):
         return bool(data)
 
     def run(self) -> None:
+        """Copies until the file is complete or a write fails."""
         try:
             while True:
                 last = self.is_last
@@ -61,6 +62,7 @@ class Copier(threading.Thread):
             self.fault = fault
 
     def finish(self) -> None:
+        """Copies the rest of the file, which is complete now, and ends the thread."""
         self.is_last = True
         self.join()
         os.close(self.file)

@@ -21,7 +21,8 @@ def printable_line(line: Optional[bytes]) -> str:
 
 
 def difference(one: Path, other: Path, what: str) -> Optional[str]:
-    """Returns the first difference of two files; transcripts are compared call by call, unless only remarks differ."""
+    """Returns a text on the first difference of two files, if any. Transcripts are compared call by call, unless only remarks
+    differ; `what` names the file in the text."""
     with open(one, "rb") as first, open(other, "rb") as second:
         pairs = enumerate(zip_longest(first, second), 1)
         parted = next(((number, line, beside) for number, (line, beside) in pairs if line != beside), None)
@@ -36,12 +37,14 @@ def difference(one: Path, other: Path, what: str) -> Optional[str]:
 
 
 def length(machine: Machine, name: str) -> int:
+    """Returns the length of a machine's file; 0 for a missing file."""
     path = machine.folder / name
     return path.stat().st_size if path.exists() else 0
 
 
 def compared(machines: "list[Machine]", status: int, seed: int) -> int:
-    """Tells whether two runs were the same; the status of the first, or that of two that differ."""
+    """Reports whether the runs of two machines were the same. Returns DIFFERENT or, if the runs are the same or were ended from
+    outside, the status of the first run."""
     one, other = machines
     if one.cut is not None:
         return status

@@ -23,7 +23,7 @@ SHOWN = 12  # threads of a deadlock that are told in words
 
 
 class Waiting(NamedTuple):
-    """A user's thread in a system call."""
+    """Describes a thread of the job, mostly one that waits in a system call."""
 
     process: int
     thread: int
@@ -47,6 +47,8 @@ class Waiting(NamedTuple):
 
 
 class MachineVerdict(NamedTuple):
+    """Describes how a program ended, or why it didn't."""
+
     by: str
     status: int  # the run's, which is the program's own where it ended by itself
     signal: Optional[str] = None  # that ended the program
@@ -60,6 +62,7 @@ class MachineVerdict(NamedTuple):
         return f"{word}: {', '.join(calls)}" if calls else word
 
     def line(self) -> str:
+        """Returns the verdict as a sentence."""
         if self.by == ITSELF:
             return f"the program ended with {self.status}"
         if self.by == SIGNAL:
@@ -72,6 +75,7 @@ class MachineVerdict(NamedTuple):
         return f"the program did not end: {why}"
 
     def lines(self) -> Iterator[str]:
+        """Yields the verdict, then the first threads of a deadlock."""
         yield self.line()
         for one in self.waiting[:SHOWN]:
             yield one.text()
@@ -79,6 +83,7 @@ class MachineVerdict(NamedTuple):
             yield f"and {len(self.waiting) - SHOWN} more threads"
 
     def record(self) -> "dict[str, Any]":
+        """Returns the verdict as an entry of the summary."""
         more: "dict[str, Any]" = {"signal": self.signal, "at": self.at}
         if self.waiting:
             more["waiting"] = [one._asdict() for one in self.waiting]
@@ -94,14 +99,14 @@ def signal_name(number: int) -> str:
 
 
 def of_wait(status: int) -> MachineVerdict:
-    """Returns the verdict for a status of wait(2)."""
+    """Returns the verdict on a program that exited or was ended by a signal, from a status of wait(2)."""
     number = status & 0x7F
     return MachineVerdict(SIGNAL, SIGNALLED + number, signal_name(number)) if number else MachineVerdict(ITSELF, status >> 8 & 0xFF)
 
 
 def waits(path: Path, start: int) -> "tuple[float, tuple[Waiting, ...]]":
-    """Returns the moment of a deadlock and all threads, as reported by the kernel; `start` is the moment in ns at which the job
-    began."""
+    """Reads the kernel's report when it ended a job: returns the moment in seconds, and all threads of the job. `start` is the
+    moment in ns at which the job began."""
     first, *rest = path.read_text(errors="replace").splitlines()
 
     def row(line: str) -> Waiting:

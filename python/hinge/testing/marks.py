@@ -1,4 +1,4 @@
-"""The marks of a test. Unknown words in a mark are refused, since the test would otherwise use another link than intended."""
+"""The marks of a test. A mark with an unknown word is refused, since the test would otherwise use another link than intended."""
 
 from __future__ import annotations
 
@@ -27,14 +27,15 @@ class WrongMark(ValueError):
 
 
 class Ends(NamedTuple):
-    """The words for the link's two ways; both may be equal."""
+    """Holds the words of a link's two ways (directions). If `back` is None, both ways have the words of `there`."""
 
     there: str
     back: Optional[str]
 
 
 def words_of(options: Mapping[str, object]) -> str:
-    """Returns a link's words for another tool's options, such as bw="10Mbit/s"; an empty text if they are none."""
+    """Translates another tool's options, such as bw="10Mbit/s", into a link's words. Returns an empty text if an option or a value
+    is unknown."""
     from hingetulip_words.advice import OPTIONS_OF, OTHER_NAMES
     from hingetulip_words.link import WordError, as_words, read_link
 
@@ -65,7 +66,8 @@ def unknown(keywords: Mapping[str, object], there: object) -> WrongMark:
 
 
 def ends_of(mark: pytest.Mark) -> Ends:
-    """Returns the words of a `link` mark. WrongMark: the mark has other arguments. ValueError: there is no such preset."""
+    """Returns the words of a `link` mark. WrongMark: the mark's arguments aren't texts for the two ways or a preset. ValueError:
+    there is no such preset."""
     if len(mark.args) > 2:
         raise WrongMark(
             f"the mark link has {len(mark.args)} texts, and takes one for the way there and one for the way back;"
@@ -97,7 +99,7 @@ def link_of(item: pytest.Item) -> Ends:
 
 @dataclass(frozen=True)
 class Span:
-    """Seconds from the least to the most."""
+    """Describes a range of numbers (mostly seconds) with its text in the mark."""
 
     low: float
     high: float
@@ -107,15 +109,17 @@ class Span:
         return self.text
 
     def drawn(self, random: Random) -> float:
+        """Draws a number from the range."""
         return random.uniform(self.low, self.high)
 
     def ms(self, random: Random) -> int:
+        """Draws a time in whole milliseconds."""
         return random.randint(round(self.low * 1000), round(self.high * 1000))
 
 
 @dataclass(frozen=True)
 class Variation:
-    """The words of a `vary` mark."""
+    """Holds the spans of a `vary` mark, from which the seed draws."""
 
     delay: Optional[Span] = None  # of each link
     jitter: Optional[Span] = None  # of each packet, more
@@ -138,8 +142,8 @@ NAMES = tuple(each.name for each in fields(Variation))
 
 
 def span_of(name: str, text: object) -> Span:
-    """Reads a span such as `5..100ms`; `80ms` begins at 0, or for a skew at -80ms. Drifts are like `100ppm`, rates like `1%`.
-    ValueError: the text is no span."""
+    """Reads a span such as `5..100ms`; `80ms` begins at 0. A drift such as `100ppm` or a skew such as `2s` may also be negative,
+    and a rate such as `1%` is exact. ValueError: the text is no span."""
     if name in OTHER_SPANS:
         form, scale, sample = OTHER_SPANS[name]
         match = re.fullmatch(form, str(text))
@@ -158,7 +162,7 @@ def span_of(name: str, text: object) -> Span:
 
 
 def variation_of(words: Mapping[str, object]) -> Variation:
-    """Returns the variation. ValueError: a word is unknown, or its value is no span."""
+    """Reads the words of `vary` marks. ValueError: a word is unknown, or its value is no span."""
     for name in words:
         if name not in NAMES:
             import difflib
@@ -169,7 +173,7 @@ def variation_of(words: Mapping[str, object]) -> Variation:
 
 
 def vary_of(item: pytest.Item) -> Variation:
-    """Returns the variation of a test's `vary` marks; the nearest mark wins. WrongMark: an argument has no name."""
+    """Returns the variation of a test's `vary` marks; the nearest mark decides on a word. WrongMark: an argument has no name."""
     marks = list(item.iter_markers("vary"))
     if any(mark.args for mark in marks):
         raise WrongMark("the mark vary takes spans by their names alone, as vary(delay='5..100ms')")
@@ -177,7 +181,8 @@ def vary_of(item: pytest.Item) -> Variation:
 
 
 def allowed_of(item: pytest.Item) -> tuple[str, ...]:
-    """Returns the names of calls that may be real. WrongMark: a `real` mark contains no name, or a wrong name."""
+    """Returns the names in a test's `real` marks; a call may be real if its name contains one of them. WrongMark: a mark contains
+    no name, or an argument that is no name."""
     marks = list(item.iter_markers("real"))
     if any(mark.kwargs or not mark.args or not all(isinstance(it, str) and it for it in mark.args) for mark in marks):
         raise WrongMark("the mark real takes names of what may be real, as real('libpq')")
@@ -191,7 +196,7 @@ def own_words(item: pytest.Item) -> frozenset[str]:
 
 
 def shared_words(item: pytest.Item) -> dict[str, str]:
-    """Returns the words that only marks of a test's class or module contain, and the place of the nearest such mark."""
+    """Returns the words that only marks of a test's class or module contain, each with the place of the nearest such mark."""
     own, found = own_words(item), dict[str, str]()
     for node, mark in item.iter_markers_with_node():
         for word in mark.kwargs if mark.name == "vary" else (["link"] if mark.name == "link" else []):
@@ -215,7 +220,7 @@ def fault_of(item: pytest.Item) -> Optional[str]:
 
 
 def unused(item: pytest.Item) -> Iterator[str]:
-    """Yields a warning for each of a test's marks without effect."""
+    """Yields a warning for each of the test's own marks without effect."""
     own = {mark.name for mark in getattr(item, "own_markers", ())}
     names = getattr(item, "fixturenames", ())
     takes_link = any(name in FIXTURES for name in names) or item.get_closest_marker("simulated") is not None

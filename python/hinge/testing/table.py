@@ -18,14 +18,15 @@ UNDISTURBED = "in no test was a packet lost, late or out of order: let links los
 
 
 def told(calls: Mapping[str, int]) -> str:
-    """Returns the count of real calls, such as `0 calls were real`."""
+    """Returns the number of real calls as text, such as `2 calls were real: connect 2`."""
     count = sum(calls.values())
     text = f"{count} {'call was' if count == 1 else 'calls were'} real"
     return f"{text}: {', '.join(f'{name} {number}' for name, number in calls.items())}" if calls else text
 
 
 def reals() -> list[tuple[str, Any]]:
-    """Returns the real calls for the report of a test in simulated time."""
+    """Returns a property for a test's report with the process's real calls since the last report, if anything ran in simulated
+    time."""
     module = sys.modules.get("hingetulip.aio.real")  # which a suite without links needn't import
     if module is None or not (whole := module.OF_PROCESS.taken()).runs:
         return []
@@ -33,7 +34,8 @@ def reals() -> list[tuple[str, Any]]:
 
 
 def refused_reals(item: pytest.Item, calls: Mapping[str, int]) -> str:
-    """Returns why a test fails that passed with real calls which no mark `real` allows; an empty text without such calls."""
+    """Returns the reason why a test fails whose real calls no mark `real` allows; an empty text without such calls. Warns of names
+    in the marks that no real call contains."""
     names = allowed_of(item)
     rest = {call: count for call, count in calls.items() if not any(name in call for name in names)}
     for name in names:
@@ -44,7 +46,7 @@ def refused_reals(item: pytest.Item, calls: Mapping[str, int]) -> str:
 
 
 def row_of(item: pytest.Item, seed: int, links: Sequence[Any]) -> list[tuple[str, Any]]:
-    """Returns the row for the table, if the test's simulated network carried a packet."""
+    """Returns a property with the test's row for the table, if the test's simulated network carried a packet."""
     states = [link.is_disturbed() for link in links if hasattr(link, "is_disturbed")]
     if not states or states[0] is None:
         return []
@@ -58,7 +60,8 @@ def row_of(item: pytest.Item, seed: int, links: Sequence[Any]) -> list[tuple[str
 
 
 def met_of(item: pytest.Item, links: Sequence[Any]) -> list[tuple[str, Any]]:
-    """Returns the unmet marks of a test's class or module for its report: each mark's place, word and reason."""
+    """Returns a property about the marks of a test's class or module: for each word, the mark's place, the word, and the reasons
+    why the word had no effect. No reason: the word had an effect."""
     words = shared_words(item) if any(hasattr(link, "is_disturbed") for link in links) else {}
     rows = [(node, word, [line for link in links for line in link.unmet_words([word])]) for word, node in words.items()]
     return [(SHARED, rows)] if rows else []
@@ -66,20 +69,21 @@ def met_of(item: pytest.Item, links: Sequence[Any]) -> list[tuple[str, Any]]:
 
 @dataclass
 class Sweep:
-    """A test's seeds, and its failing seeds."""
+    """Holds the seeds of a test's runs, and the failing seeds."""
 
     varied: str
     seeds: list[int] = field(default_factory=list)
     failed: list[int] = field(default_factory=list)
 
     def text(self) -> str:
+        """Returns a text such as `2 of 20 seeds failed: 3, 7`."""
         more = f" and {len(self.failed) - MOST_SEEDS} more" if len(self.failed) > MOST_SEEDS else ""
         numbers = f": {', '.join(map(str, sorted(self.failed)[:MOST_SEEDS]))}{more}" if self.failed else ""
         return f"{len(self.failed)} of {len(self.seeds)} seeds failed{numbers}{f' ({self.varied})' if self.varied else ''}"
 
 
 class Table:
-    """Collects rows from the reports of tests, including pytest-xdist's workers."""
+    """Collects properties from the reports of tests, including pytest-xdist's workers, and prints the table."""
 
     def __init__(self) -> None:
         self.sweeps: dict[str, Sweep] = {}
@@ -114,7 +118,7 @@ class Table:
             sweep.failed += [row["seed"]] * report.failed
 
     def pytest_sessionfinish(self, session: Any) -> None:
-        """A module's or class's mark that had no effect in any test fails the session."""
+        """Fails the session if a module's or class's mark had no effect in any test."""
         if any(self.shared.values()) and not session.exitstatus and not hasattr(session.config, "workerinput"):
             session.exitstatus = pytest.ExitCode.TESTS_FAILED
 

@@ -1,6 +1,6 @@
-"""A test network varied by its seed.
+"""A test's network that the seed varies.
 
-With losses only, all tasks run in step: no period ever meets another one differently."""
+Without variation all tasks run in step, so that two periodic tasks always meet in the same order."""
 
 from __future__ import annotations
 
@@ -25,7 +25,7 @@ KINDS = {  # of the acts that words draw, and of what they are
 
 
 class VariedHost(Host):
-    """A host whose tasks begin later."""
+    """Describes a host whose tasks each begin after a time that the seed draws, their phase."""
 
     net: VariedNetwork
 
@@ -35,6 +35,7 @@ class VariedHost(Host):
 
 
 async def begun(coroutine: Coroutine[Any, Any, T], phase: float) -> T:
+    """Runs a coroutine after `phase` seconds; returns its result."""
     try:
         await asyncio.sleep(phase)
     except asyncio.CancelledError:
@@ -44,8 +45,8 @@ async def begun(coroutine: Coroutine[Any, Any, T], phase: float) -> T:
 
 
 class VariedNetwork(FaultyNetwork):
-    """A network that its seed varies. The draws don't depend on the losses of links, so that a run with fewer losses is varied
-    alike. The effects of cuts, jitter and the like are faults, and a run with given faults replaces them."""
+    """Describes a network that the seed varies by the words of a `vary` mark. The draws don't depend on the links' losses, so that
+    a run with fewer losses has the same variation. A run with chosen faults draws no faults, such as cuts, jitter and skews."""
 
     def __init__(self, variation: Variation, *words: Any, **more: Any) -> None:
         super().__init__(*words, **more)
@@ -93,12 +94,12 @@ class VariedNetwork(FaultyNetwork):
         return late, is_twice
 
     def faults_met(self) -> list[Either]:
-        """Returns as faults all that the seed drew. A cut is reported as its lost packets."""
+        """Returns everything that the seed drew as faults. A cut is reported as the packets that it lost."""
         acts = [act for drawn in self.drawn_acts.values() for act in drawn if act.kind != CUT]
         return [*super().faults_met(), *self.skews, *sorted(acts)]
 
     def unvaried(self) -> dict[str, str]:
-        """Returns the words of the `vary` mark that can't have changed anything, with the reasons."""
+        """Returns the words of the `vary` mark that had no effect, each with the reason."""
         has_packet = any(link.came for link in self.links.values())
         has_look = any(host.looks for host in self.hosts.values())
         lacking = {
@@ -114,14 +115,14 @@ class VariedNetwork(FaultyNetwork):
         return {word: text for word, text in lacking.items() if text and getattr(self.variation, word) is not None}
 
     def _targets(self, word: str) -> list[str]:
-        """Returns the possible targets of an act."""
+        """Returns the names of the links or hosts that this word's acts can affect."""
         if word in ("one_way_cuts", "holds"):
             return [link.name for link in self.links.values()]
         hosts = sorted(set(self.hosts.values()), key=lambda host: host.address)
         return [host.name for host in hosts if word != "crashes" or host.programs]
 
     def _act_next(self, word: str, random: Random, left: int) -> None:
-        """Carries out an act after a drawn time, and again until the count is used up."""
+        """Begins an act of this word after a drawn time, and then the next one, `left` acts in all."""
         span: Span = getattr(self.variation, word)
 
         def begin() -> None:
