@@ -61,11 +61,12 @@ async def step(generator_of_loop: AsyncGenerator[object, None]) -> object:
 def pytest_fixture_setup(fixturedef: Any, request: pytest.FixtureRequest) -> Generator[None, None, None]:
     """Runs an asynchronous fixture in the network of the test's sim_net, if the test has one: replaces the fixture's function
     during the setup. Fixtures that tests share (with another scope than `function`) stay asynchronous."""
-    own, call = fixturedef.func, asynchronous(fixturedef.func)
+    own_function = fixturedef.func
+    call = asynchronous(own_function)
     if call is not None and fixturedef.scope == "function" and NETWORK in request.fixturenames:
         fixturedef.func = synchronous(bound(call, request.instance), request.getfixturevalue(NETWORK))
     yield
-    fixturedef.func = own
+    fixturedef.func = own_function
 
 
 @pytest.hookimpl(tryfirst=True)  # type: ignore[misc]

@@ -57,17 +57,19 @@ def dropped_in_history(history: Path) -> list[str]:
         for row, (call, reply) in enumerate(submissions(history), 1)
         if reply[1] != "queued"
     ]
-    return lines[:MOST_DROPPED] + ([f"  and {len(lines) - MOST_DROPPED} more"] if len(lines) > MOST_DROPPED else [])
+    if len(lines) > MOST_DROPPED:
+        return [*lines[:MOST_DROPPED], f"  and {len(lines) - MOST_DROPPED} more"]
+    return lines
 
 
 def unmet_cuts(history: Path) -> list[str]:
     """Returns a line for each cut in a net's transcript that lost no packet. A cut begins with a remark `# act,cut ..`, and then
     configures all its pipes at once with `plr 1`. Returns an empty list if the remarks don't match the configurations."""
-    names = list[str]()
-    met = list[int]()
-    cut_by = dict[str, int]()
+    names = list[str]()  # the cuts' remarks
+    losses = list[int]()  # each cut's number of lost packets
+    cut_by = dict[str, int]()  # for each pipe in a cut, the cut's place in the lists
     call = [""]
-    is_cutting = False
+    is_cutting = False  # whether the last line configured a cut, to which the next one may belong
     for record in records(history):
         if record[:2] == ["#", "act"] and record[2].startswith("cut "):
             names.append(record[2])
@@ -75,14 +77,20 @@ def unmet_cuts(history: Path) -> list[str]:
             pipe = record[3].split()[1]
             is_cut = record[3].endswith(" plr 1")
             if is_cut and not is_cutting:
-                met.append(0)
-            cut_by = {**cut_by, pipe: len(met) - 1} if is_cut else {key: cut for key, cut in cut_by.items() if key != pipe}
+                losses.append(0)
+            if is_cut:
+                cut_by[pipe] = len(losses) - 1
+            else:
+                cut_by.pop(pipe, None)
             is_cutting = is_cut
         elif record[2:3] == ["submit"]:
-            call, is_cutting = record, False
+            call = record
+            is_cutting = False
         elif record[:2] == ["r", "lost"] and call[4] in cut_by:
-            met[cut_by[call[4]]] += 1
-    return [f"{name}: it met no packet" for name, count in zip(names, met) if not count] if len(names) == len(met) else []
+            losses[cut_by[call[4]]] += 1
+    if len(names) != len(losses):
+        return []
+    return [f"{name}: it met no packet" for name, count in zip(names, losses) if not count]
 
 
 class Emulated(ABC):
@@ -90,9 +98,11 @@ class Emulated(ABC):
 
     def __init__(self, history: Path, own: frozenset[str] = frozenset()) -> None:
         """Describes a link with a history; `own` contains the words of the test's own marks, which must have an effect."""
-        self.history, self.told, self.own = history, "", own
+        self.history = history
+        self.own = own
+        self.told = ""  # the link's report at its end
         self.verdict: Optional[str] = None
-        self.faults: list[str] = []  # exceptions that nobody took
+        self.faults: list[str] = []  # exceptions that nobody caught
 
     def finish(self) -> None:
         """Ends the link and audits its history, unless an earlier call did."""
@@ -107,8 +117,9 @@ class Emulated(ABC):
 
     def unmet_words(self, words: Collection[str]) -> list[str]:
         """Returns a line for each of these words of marks that had no effect."""
-        is_met = "link" not in words or self.history.exists() and any(submissions(self.history))
-        return ["the mark link: no packet came to a link of the test"] if not is_met else []
+        if "link" not in words or (self.history.exists() and any(submissions(self.history))):
+            return []
+        return ["the mark link: no packet came to a link of the test"]
 
     def idle(self) -> list[str]:
         """Returns a warning for each part of a simulated network (a link's change or function, a route) that no packet met."""
@@ -163,7 +174,8 @@ class SimulatedPath(Emulated):
 
     def __init__(self, net: VariedNetwork, history: Path, own: frozenset[str] = frozenset()) -> None:
         super().__init__(history, own)
-        self.net, self.faults = net, net.faults
+        self.net = net
+        self.faults = net.faults
 
     def end(self) -> None:
         try:
@@ -189,9 +201,11 @@ class SimulatedPath(Emulated):
         """Returns whether a link disturbed a packet: lost the packet, had a full queue or no target, doubled the packet, or delayed
         the packet by a jitter or a fault. A link with `copies` always counts as disturbed. None: no packet came."""
         links = self.net.links.values()
-        counts = [sum(link.outcomes[place] for link in links) for place in Outcome]
-        has_more = any(link.copies is not None or link.pipes for link in links) or bool(self.net.happened)
-        return bool(sum(counts[1:])) or has_more if any(counts) else None
+        queued, *others = [sum(link.outcomes[outcome] for link in links) for outcome in Outcome]
+        if not queued and not any(others):
+            return None
+        has_copies = any(link.copies is not None or link.pipes for link in links)
+        return any(others) or has_copies or bool(self.net.happened)
 
     def chosen(self) -> Faults:
         """Returns the faults of the run: the faults that an option or a search chose, or otherwise the links' losses and the seed's
@@ -239,17 +253,26 @@ class NetOfTest(Emulated):
     def report(self) -> str:
         if not self.history.exists():
             return self.net.told() or "the net didn't begin"
-        changes = [f"  {one.seconds:.6f} s, changed: {one.line}" for one in self.net.obeyed]
-        message = [
-            f"{name} printed last ({self.log(name)}):\n{text}"
-            for name in self.net.addresses()
-            if (text := self.net.last_lines(name))
-        ]
+        changes = [f"  {change.seconds:.6f} s, changed: {change.line}" for change in self.net.obeyed]
         losses = [self.named(line) for line in dropped_in_history(self.history)]
-        return "\n".join([self.net.told(), *changes, *losses, *message, closing(self.net.drawn_seed(), self.verdict, self.history)])
+        outputs = list[str]()
+        for name in self.net.addresses():
+            text = self.net.last_lines(name)
+            if text:
+                outputs.append(f"{name} printed last ({self.log(name)}):\n{text}")
+        return "\n".join([self.net.told(), *changes, *losses, *outputs, closing(self.net.drawn_seed(), self.verdict, self.history)])
 
     def log(self, host: str) -> Path:
         return self.net.folder / "logs" / f"{host}.log"
+
+
+def report_of_link(link: Emulated) -> str:
+    """Ends a link; returns its report."""
+    try:
+        link.finish()
+        return link.report()
+    except Exception as fault:
+        return no_report(fault)
 
 
 def no_report(fault: Exception) -> str:

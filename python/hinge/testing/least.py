@@ -17,9 +17,10 @@ from hinge.searches.case import Case, Part, least
 from hinge.testing.emulated import SimulatedPath
 from hinge.testing.marks import Variation, variation_of, vary_of
 
-LEAST, SEARCHED = "least faults", "hingetulip searched"  # of a section, and of a property
+LEAST = "least faults"  # the title of a report's section
+SEARCHED = "hingetulip searched"  # the key of a report's property
 ALL = {"delay": "5..100ms", "jitter": "80ms", "phase": "1s", "drift": "100ppm", "skew": "2s", "duplicates": "2%", "cuts": "1..3s"}
-VARIATIONS = variation_of({"jitter": "300ms"}), variation_of(ALL)  # of tests without a mark `vary`, in turn
+VARIATIONS = variation_of({"jitter": "300ms"}), variation_of(ALL)  # the variations of tests without a mark `vary`, in turn
 
 
 @dataclass(frozen=True)
@@ -37,8 +38,10 @@ class Trial:
 
 def trial_of(item: pytest.Item) -> Trial:
     """Returns the trial that a shrinking or a search is making of a test; otherwise a trial with the command line's faults."""
+    if TRIED in item.stash:
+        return item.stash[TRIED]
     path = item.config.getoption("--link-faults")
-    return item.stash[TRIED] if TRIED in item.stash else Trial(None if path is None else read_faults(path))
+    return Trial() if path is None else Trial(read_faults(path))
 
 
 def failure(reports: Sequence[pytest.TestReport]) -> Optional[pytest.TestReport]:
@@ -56,9 +59,10 @@ class Trials:
     """Runs a test any number of times, without a report to the user."""
 
     def __init__(self, item: pytest.Item, nextitem: Optional[pytest.Item]) -> None:
-        self.item, self.nextitem = item, nextitem
+        self.item = item
+        self.nextitem = nextitem
         self.count = 0
-        self.place: Optional[str] = None  # of the failure that is looked for
+        self.place: Optional[str] = None  # the place of the failure that trials look for
 
     def run(self, trial: Optional[Trial] = None) -> list[pytest.TestReport]:
         if trial is not None:
@@ -92,9 +96,11 @@ class Trials:
             return verdicts[case]
 
         whole = Case(0, (), tuple(Part("losses", (str(fault),)) for fault in self.network().chosen()))
-        return Drawn(*(line for part in least(whole, fails).parts for line in part.what)) if fails(whole) else None
+        if not fails(whole):
+            return None
+        return Drawn(*(line for part in least(whole, fails).parts for line in part.what))
 
-    def drawn(self, runs: int) -> Optional[Trial]:
+    def trial_by_hypothesis(self, runs: int) -> Optional[Trial]:
         """Returns a trial with faults that hypothesis found and shrank, if the test failed in one of about `runs` runs."""
         from hypothesis import HealthCheck, errors, find, settings
 
@@ -104,27 +110,27 @@ class Trials:
         kinds = some_faults(*links, packets=min(60, max(link.came for link in net.links.values())))
         if hosts:
             kinds |= some_faults(*links, hosts=hosts, seconds=max(1, int(net.loop.time())))
-        how: Any = settings(max_examples=runs, database=None, deadline=None, suppress_health_check=list(HealthCheck))
+        options: Any = settings(max_examples=runs, database=None, deadline=None, suppress_health_check=list(HealthCheck))
         try:
-            return Trial(find(kinds, lambda faults: self.fails(Trial(faults)), settings=how, random=Random(1)))
+            return Trial(find(kinds, lambda faults: self.fails(Trial(faults)), settings=options, random=Random(1)))
         except errors.NoSuchExample:
             return None
 
-    def by_seeds(self, runs: int) -> Iterator[Trial]:
+    def trials_by_seeds(self, runs: int) -> Iterator[Trial]:
         """Yields a trial for each seed, with the mark's variation or otherwise with VARIATIONS in turn."""
         own = vary_of(self.item)
         for seed in range(1, runs + 1):
             yield Trial(seed=seed, variation=own if str(own) else VARIATIONS[seed % len(VARIATIONS)])
 
-    def found(self, runs: int) -> Optional[Trial]:
+    def failing_trial(self, runs: int) -> Optional[Trial]:
         """Returns a trial with which a passing test fails: with hypothesis's faults, or otherwise with a seed. None: no packet came
         to a link, or each trial passes."""
         if not any(link.came for link in self.network().net.links.values()):
             return None
-        trial = self.drawn(runs)
-        if trial is None:
-            trial = next((it for it in self.by_seeds(runs) if self.fails(it)), None)
-        return trial
+        trial = self.trial_by_hypothesis(runs)
+        if trial is not None:
+            return trial
+        return next((trial_of_seed for trial_of_seed in self.trials_by_seeds(runs) if self.fails(trial_of_seed)), None)
 
 
 def text_of(faults: Faults, count: int, trials: Trials) -> str:
@@ -153,9 +159,10 @@ def reports_of_search(item: pytest.Item, nextitem: Optional[pytest.Item], runs: 
     result = trials.run()
     if not all(report.passed for report in result):
         return result if failure(result) is None else reports_with_least(item, nextitem)
-    trial = trials.found(runs)
+    trial = trials.failing_trial(runs)
     if trial is None:
-        next(it for it in result if it.when == "call").user_properties.append((SEARCHED, f"no failure in {trials.count} runs"))
+        body = next(report for report in result if report.when == "call")
+        body.user_properties.append((SEARCHED, f"no failure in {trials.count} runs"))
         return result
     if trial.faults is None:
         trial = Trial(trials.shrunk(trial), trial.seed, trial.variation)

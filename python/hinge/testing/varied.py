@@ -15,8 +15,8 @@ from hingetulip.aio import Host, Link
 from hingetulip.aio.extra import IsTwice, LateOf
 
 T = TypeVar("T")
-MOST_CUTS = 30  # of a run, whose last timer ends so that a test that waits for nothing is noticed
-KINDS = {  # of the acts that words draw, and of what they are
+MOST_CUTS = 30  # a run's most acts of a kind; the timers end, so that a test which waits for no event is noticed
+KINDS = {  # for each word that draws acts, the kind of act and of its target
     "cuts": (CUT, "host with links"),
     "one_way_cuts": (CUT, "link"),
     "holds": (HOLD, "link"),
@@ -30,11 +30,14 @@ class VariedHost(Host):
     net: VariedNetwork
 
     def create_task(self, coroutine: Coroutine[Any, Any, T], *, name: Optional[str] = None) -> asyncio.Task[T]:
-        phase, self.net.begun = self.net.variation.phase, self.net.begun + 1
-        return super().create_task(coroutine if phase is None else begun(coroutine, phase.drawn(self.net.drawn)), name=name)
+        self.net.begun += 1
+        phase = self.net.variation.phase
+        if phase is not None:
+            coroutine = delayed(coroutine, phase.drawn(self.net.drawn))
+        return super().create_task(coroutine, name=name)
 
 
-async def begun(coroutine: Coroutine[Any, Any, T], phase: float) -> T:
+async def delayed(coroutine: Coroutine[Any, Any, T], phase: float) -> T:
     """Runs a coroutine after `phase` seconds; returns its result."""
     try:
         await asyncio.sleep(phase)
@@ -54,7 +57,7 @@ class VariedNetwork(FaultyNetwork):
         self.drawn = Random(f"vary {self.seed}")
         self.drawn_acts: dict[str, list[Act]] = {word: [] for word in KINDS}
         self.skews: list[Act] = []
-        self.begun = 0  # tasks of hosts
+        self.begun = 0  # the number of the hosts' tasks
         for word in KINDS if self.chosen is None else ():
             if getattr(variation, word) is not None:
                 self._act_next(word, Random(f"{word} {self.seed}"), MOST_CUTS)
@@ -77,21 +80,21 @@ class VariedNetwork(FaultyNetwork):
 
     def drawn_of(self, link: Link) -> tuple[Optional[LateOf], Optional[IsTwice]]:
         late, is_twice = super().drawn_of(link)
-        span = self.variation.jitter
+        jitter = self.variation.jitter
         rate = self.variation.duplicates
-        near = link.near
-        far = link.far
-        random = Random(f"{self.seed} {near} > {far}" if span is None else self.drawn.getrandbits(64))
-        of_copies = Random(random.getstate()[1][0])
-        own_late = late
-        own_twice = is_twice
-        if self.chosen is None and span is not None:
-            ms_of = span.ms
-            late = lambda number: ms_of(random) + (own_late(number) if own_late else 0)
-        if self.chosen is None and rate is not None:
+        random = Random(f"{self.seed} {link.near} > {link.far}" if jitter is None else self.drawn.getrandbits(64))
+        random_of_copies = Random(random.getstate()[1][0])
+        if self.chosen is not None:
+            return late, is_twice
+        varied_late = late
+        varied_twice = is_twice
+        if jitter is not None:
+            ms_of = jitter.ms
+            varied_late = lambda number: ms_of(random) + (late(number) if late else 0)
+        if rate is not None:
             chance = rate.high
-            is_twice = lambda number: of_copies.random() < chance or bool(own_twice and own_twice(number))
-        return late, is_twice
+            varied_twice = lambda number: random_of_copies.random() < chance or bool(is_twice and is_twice(number))
+        return varied_late, varied_twice
 
     def faults_met(self) -> list[Either]:
         """Returns everything that the seed drew as faults. A cut is reported as the packets that it lost."""
@@ -102,17 +105,19 @@ class VariedNetwork(FaultyNetwork):
         """Returns the words of the `vary` mark that had no effect, each with the reason."""
         has_packet = any(link.came for link in self.links.values())
         has_look = any(host.looks for host in self.hosts.values())
-        lacking = {
-            **dict.fromkeys(("delay", "jitter", "duplicates"), "no packet came to a link" if not has_packet else ""),
-            "phase": ("no task is a host's" if not self.begun else ""),
-            **dict.fromkeys(("drift", "skew"), "no task of a host looked at `time.time()`" if not has_look else ""),
-        }
+        reasons = dict[str, str]()
+        if not has_packet:
+            reasons.update(dict.fromkeys(("delay", "jitter", "duplicates"), "no packet came to a link"))
+        if not self.begun:
+            reasons["phase"] = "no task is a host's"
+        if not has_look:
+            reasons.update(dict.fromkeys(("drift", "skew"), "no task of a host looked at `time.time()`"))
         now = self.loop.time()
-        for word, (_, of) in KINDS.items() if self.chosen is None else ():
+        for word, (_, target) in KINDS.items() if self.chosen is None else ():
             span = getattr(self.variation, word)
             if span is not None and not self.drawn_acts[word] and not span.low <= now <= span.high:
-                lacking[word] = f"the test ended at {now:g} s" if now < span.low else f"there is no {of}"
-        return {word: text for word, text in lacking.items() if text and getattr(self.variation, word) is not None}
+                reasons[word] = f"the test ended at {now:g} s" if now < span.low else f"there is no {target}"
+        return {word: reason for word, reason in reasons.items() if getattr(self.variation, word) is not None}
 
     def _targets(self, word: str) -> list[str]:
         """Returns the names of the links or hosts that this word's acts can affect."""
@@ -130,7 +135,8 @@ class VariedNetwork(FaultyNetwork):
                 return
             lasting = round(span.drawn(random), 9)
             targets = self._targets(word)
-            act = Act(self.loop.time(), KINDS[word][0], random.choice(targets) if targets else "", lasting)
+            target = random.choice(targets) if targets else ""
+            act = Act(self.loop.time(), KINDS[word][0], target, lasting)
             try:
                 self.act(act).is_drawn = True
                 self.drawn_acts[word].append(act)
