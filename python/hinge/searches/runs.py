@@ -1,4 +1,4 @@
-"""The runs of a search. Each run is a file in the search's folder, complete or missing, so that any job scheduler can make runs."""
+"""A search's runs. Each run is a file in the search's folder, complete or missing, so that any job scheduler can make runs."""
 
 from __future__ import annotations
 
@@ -20,10 +20,10 @@ from hinge.simulated.machine import NO_CORES, SIGNALLED, Machine
 from hinge.simulated.start import planned, reported
 
 NO_RUN = "no run of a search"
-OUTPUT = 10_000  # the last letters of what a run printed that are kept
+OUTPUT = 10_000  # the number of characters that are kept of a run's output, from the end
 REFUSED = 6
-WELL = "status 0"
-LONGEST = "86400s"  # of simulated time, after which a run goes on for ever, where --limit says nothing
+WELL = "status 0"  # the name of a run that ended well
+LONGEST = "86400s"  # the simulated time after which a run is ended without --limit
 
 
 class SearchSettings(NamedTuple):
@@ -53,7 +53,7 @@ PLAIN = RunFiles()
 
 
 class SummarizedRun(NamedTuple):
-    """Holds a run's status, the end of its output, and its summary."""
+    """Holds a run's status, the end of the output, and the summary."""
 
     status: int
     output: str
@@ -61,7 +61,7 @@ class SummarizedRun(NamedTuple):
 
     @property
     def has_run(self) -> bool:
-        """Returns whether the program started. A run that ended earlier was refused by `hinge` itself."""
+        """Returns whether the program started. If a run ended earlier, `hinge` itself refused the run."""
         return isinstance(self.record.get("ended"), dict)
 
     @property
@@ -77,13 +77,14 @@ class SummarizedRun(NamedTuple):
     def remarks(self) -> "list[str]":
         """Returns warnings about the run: commands that failed although the program ended well, and a repetition that may
         differ."""
-        servers = {} if self.failed else {"the server": self.record.get("server"), **(self.record.get("hosts") or {})}
-        ends = [
-            f"{name} ended with {one['status']} by itself"
-            for name, one in servers.items()
-            if one and one["by"] == "itself" and one["status"]
-        ]
-        return [*ends, *(["a second run may differ"] if self.has_run and self.record.get("repeatable") is False else [])]
+        lines = list[str]()
+        commands = {"the server": self.record.get("server"), **(self.record.get("hosts") or {})}
+        for name, end in commands.items():
+            if end and end["by"] == "itself" and end["status"] and not self.failed:
+                lines.append(f"{name} ended with {end['status']} by itself")
+        if self.has_run and self.record.get("repeatable") is False:
+            lines.append("a second run may differ")
+        return lines
 
     def told(self) -> str:
         """Returns the run's end and the last line of output."""
@@ -103,7 +104,7 @@ def command_words(settings: SearchSettings, what: "Sequence[str]", seed: int, pa
     return [*what, *options, *(["--", *settings.command] if settings.command else [])]
 
 
-Look = Callable[[Machine], None]  # at one that is over, before its folder goes
+Look = Callable[[Machine], None]  # examines a machine after its run, before its folder is removed
 
 
 def simulated_options(words: "Sequence[str]") -> SimulatedOptions:
@@ -112,16 +113,19 @@ def simulated_options(words: "Sequence[str]") -> SimulatedOptions:
 
 
 class Runner:
-    """Makes runs, each in a separate machine. No machine outlives its run."""
+    """Makes runs, each in a separate machine, which is removed with the run's end."""
 
     def __init__(self, options: SearchSettings) -> None:
-        self.asked, self.kernel, self.running, self.is_over = options, usable_kernel(), set[Machine](), False
+        self.settings = options
+        self.kernel = usable_kernel()
+        self.running = set[Machine]()
+        self.is_over = False
 
     def run(
         self, what: "Sequence[str]", seed: int, pauses: Optional[str], watch: RunFiles = PLAIN, look: Optional[Look] = None
     ) -> SummarizedRun:
-        """Makes a run and returns it. `look` is called with the machine after the run, before the machine's files are removed."""
-        name, *words = command_words(self.asked, what, seed, pauses)
+        """Returns a new run. `look` is called with the machine after the run, before the machine's files are removed."""
+        name, *words = command_words(self.settings, what, seed, pauses)
         options = simulated_options([name, "--quiet", *words])
         options = options.but(limit=options.limit or LONGEST, transcript=watch.transcript)
         refuse_outside(options, False)
@@ -151,10 +155,10 @@ class Runner:
             machine.end(SIGNALLED)
 
     def case(self, case: Case, watch: RunFiles = PLAIN, look: Optional[Look] = None) -> SummarizedRun:
-        """Makes the run of a case, as `run` does, and returns it."""
-        if self.asked.net is None:
+        """Returns a new run with a case's lines, seed and pauses, like `run`."""
+        if self.settings.net is None:
             return self.run(["run", *case.options()], case.seed, case.pauses(), watch, look)
-        with file_beside(self.asked.net, case.net()) as file:
+        with file_beside(self.settings.net, case.net()) as file:
             return self.run(["net", str(file)], case.seed, case.pauses(), watch, look)
 
 
@@ -162,7 +166,8 @@ class Runs:
     """Describes a search's folder. The file run-SEED.json contains a seed's run."""
 
     def __init__(self, folder: Path, runner: Runner) -> None:
-        self.folder, self.runner = folder, runner
+        self.folder = folder
+        self.runner = runner
         folder.mkdir(parents=True, exist_ok=True)
 
     def path(self, seed: int) -> Path:
@@ -170,19 +175,20 @@ class Runs:
 
     def make(self, seed: int) -> None:
         """Makes a seed's run and writes its file, unless the search is over. Fault: hinge refused the run."""
+        settings = self.runner.settings
         try:
-            ran = self.runner.run(self.runner.asked.what, seed, self.runner.asked.pauses)
+            run_of_seed = self.runner.run(settings.what, seed, settings.pauses)
         except Fault:
             if self.runner.is_over:
                 return
             raise
         if self.runner.is_over:
             return
-        if not ran.has_run:
-            why = ran.last_line().removeprefix(f"hinge {self.runner.asked.what[0]}: ") or f"status {ran.status}"
-            raise Fault(f"seed {seed}: {why}", ran.status or REFUSED)
+        if not run_of_seed.has_run:
+            reason = run_of_seed.last_line().removeprefix(f"hinge {settings.what[0]}: ") or f"status {run_of_seed.status}"
+            raise Fault(f"seed {seed}: {reason}", run_of_seed.status or REFUSED)
         try:
-            write_json(str(self.path(seed)), ran._asdict())
+            write_json(str(self.path(seed)), run_of_seed._asdict())
         except PermissionError:
             if not self.path(seed).exists():  # else another user made the same run meanwhile
                 raise
@@ -200,11 +206,11 @@ class Runs:
 
     def make_all(self, seeds: "list[int]", at_once: int) -> None:
         """Makes the missing runs of these seeds, `at_once` at a time."""
-        todo = [seed for seed in seeds if not self.path(seed).exists()]
-        bar = Bar("runs", len(todo))
+        missing = [seed for seed in seeds if not self.path(seed).exists()]
+        bar = Bar("runs", len(missing))
         with ThreadPoolExecutor(at_once) as pool:
-            try:  # around what submits them, as the first run may have begun when a signal comes
-                for task in as_completed([pool.submit(self.make, seed) for seed in todo]):
+            try:  # the submissions are inside, since the first run may have begun when a signal comes
+                for task in as_completed([pool.submit(self.make, seed) for seed in missing]):
                     task.result()
                     bar.step()
             except BaseException:
