@@ -227,12 +227,12 @@ def judge_links(item: pytest.Item, report: pytest.TestReport, links: list[Emulat
     """Fails a passing test if a fault or a mark's word had no effect in simulated time; otherwise warns of idle parts."""
     if not report.passed or TRIED in item.stash:
         return
-    simulated = [link for link in links if hasattr(link, "is_disturbed")]
-    unmet = [line for link in simulated for line in link.unmet()]
+    simulated_links = [link for link in links if hasattr(link, "is_disturbed")]
+    unmet = [line for link in simulated_links for line in link.unmet()]
     if unmet:
         report.outcome, report.longrepr = "failed", "\n".join([UNMET, *unmet])
         return
-    for line in (line for link in simulated for line in link.idle()):
+    for line in (line for link in simulated_links for line in link.idle()):
         item.warn(pytest.PytestWarning(line))
 
 

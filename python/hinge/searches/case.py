@@ -127,9 +127,8 @@ def case_of(what: "list[str]", seed: int, record: "dict[str, Any]", lost: "Optio
     else:
         lines = options_with_values(what[1:])
         faults = []
-    if lost is None:
-        lost = [line for line in lines if lossless(line) != line]
-    losses = [Part("losses", (line,)) for line in lost]
+    lines_with_losses = [line for line in lines if lossless(line) != line] if lost is None else lost
+    losses = [Part("losses", (line,)) for line in lines_with_losses]
     words = [Paused(**pause).given().word() for pause in record.get("pauses", {}).get("first", ())]
     pauses = [Part("pauses", (word,)) for word in words]
     return Case(seed, lines, (*faults, *pauses, *losses))

@@ -61,16 +61,16 @@ def packets_lost(paths: "list[Path]", ways: int) -> "Optional[list[Lost]]":
     row = ""
     for line in (line for path in paths for line in path.open(encoding="utf-8", errors="replace")):
         submit = SUBMIT.match(line)
-        configured = CONFIGURED.match(line)
+        setting = CONFIGURED.match(line)
         if submit:
             if submit[1] == "queue":
                 return None
             way = int(submit[2]) - 1
             row = line[submit.end() :].rstrip()
             count[way] += 1
-        elif configured:
-            cut_way = int(configured[1]) - 1
-            cuts = cuts | {cut_way} if configured["cut"] else cuts - {cut_way}
+        elif setting:
+            cut_way = int(setting[1]) - 1
+            cuts = cuts | {cut_way} if setting["cut"] else cuts - {cut_way}
         elif line.startswith(LOST) and way < ways and way not in cuts:
             losses.append(Lost(way, count[way], row))
     return losses if len(losses) <= MOST_LOST else None

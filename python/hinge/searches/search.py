@@ -30,10 +30,10 @@ def write_failure(path: str, words: "list[str]", net: Optional[str], record: "di
 
 def show_runs(runs: Runs, numbers: "list[int]") -> "list[int]":
     """Prints a line for each failed or void run, and counts; returns the seeds of the failed runs."""
-    made = runs.made(numbers)
+    seeds_with_run = runs.made(numbers)
     failures = list[int]()
     remarks = dict[str, list[int]]()
-    for seed in made:
+    for seed in seeds_with_run:
         run = runs.of(seed)
         for remark in run.remarks():
             remarks.setdefault(remark, []).append(seed)
@@ -41,11 +41,11 @@ def show_runs(runs: Runs, numbers: "list[int]") -> "list[int]":
             show(f"seed {seed}: {run.told()}")
         if run.failed:
             failures.append(seed)
-    rest = len(numbers) - len(made)
-    text = f"{len(failures)} of {len(made)} runs failed"
+    rest = len(numbers) - len(seeds_with_run)
+    text = f"{len(failures)} of {len(seeds_with_run)} runs failed"
     show(f"{text}, {rest} more are left" if rest else text)
     for remark, seeds in remarks.items():
-        say(f"{remark} in {len(seeds)} of {len(made)} runs, first by seed {seeds[0]}")
+        say(f"{remark} in {len(seeds)} of {len(seeds_with_run)} runs, first by seed {seeds[0]}")
     return failures
 
 

@@ -21,10 +21,10 @@ from hinge.simulated.opened_files import sha256_of
 PACKAGES = Path("/usr/src")
 PROGRAMS = "cc=gcc make flex bison bc tar xz=xz-utils patch strip=binutils"
 NEEDED = {name: package or name for name, _, package in (word.partition("=") for word in PROGRAMS.split())}
-ROOM = 2_000_000_000  # bytes that a build takes
-MADE = re.compile(r"^  (?:CC|LD|AR|AS|GEN|HOSTCC|HOSTLD|LEX|YACC|UPD|LDS|OBJCOPY|MKCAP|CHK|SYSHDR|SYSTBL|WRAP)\s")
-ABOUT = 1050  # such lines of a whole build
-LAST_LINES = 30  # lines of a failed step that are told
+ROOM = 2_000_000_000  # bytes that a build needs on the disk
+STEP = re.compile(r"^  (?:CC|LD|AR|AS|GEN|HOSTCC|HOSTLD|LEX|YACC|UPD|LDS|OBJCOPY|MKCAP|CHK|SYSHDR|SYSTBL|WRAP)\s")
+ABOUT = 1050  # the approximate number of make's lines about a step in a whole build
+LAST_LINES = 30  # the number of a failed step's last lines that are printed
 FAILED = 6
 
 
@@ -65,7 +65,8 @@ class Build:
             raise Fault(f"needs {', '.join(names)}: apt-get install {' '.join(names.values())}", MISSING)
         if not place.is_file():
             raise Missing(f"{place}: there is no such file")
-        self.packed, self.jobs = place.resolve(), jobs
+        self.packed = place.resolve()
+        self.jobs = jobs
 
     def step(self, what: str, *words: "str | Path", where: Path) -> None:
         """Runs a command in the folder `where`; `what` names the step in messages. Fault: the command failed; its last lines are
@@ -75,10 +76,10 @@ class Build:
         last = list[str]()
         how: dict[str, Any] = {"cwd": where, "env": names, "stdin": NOTHING, "stdout": PIPE, "stderr": SAME, "errors": "replace"}
         with begun([*map(str, words)], text=True, preexec_fn=begin_group, **how) as process, ExitStack() as behind:
-            behind.callback(end_group, process)  # where a signal came
+            behind.callback(end_group, process)  # if a signal interrupts the loop
             for line in process.stdout or ():
                 last = [*last[-LAST_LINES:], line]
-                if MADE.match(line) and bar.done < ABOUT - 1:
+                if STEP.match(line) and bar.done < ABOUT - 1:
                     bar.step()
             behind.pop_all()
         bar.clear()
@@ -134,7 +135,8 @@ class Build:
                 raise Missing(f"{place}: a build takes {ROOM // 10**9} GB; the variable TMPDIR names another place")
             tree = self.unpacked(place)
             self.configure(tree)
-            (new := beside / "kernel").mkdir()
+            new = beside / "kernel"
+            new.mkdir()
             self.compile(tree, new)
             yield Kernel(new)
             yield kept_as(new, folder_of(version_of(tree)))
@@ -150,13 +152,13 @@ def end_group(process: "Process[str]") -> None:
     """Kills a process and its group, and waits until all have stopped writing into the build's folder."""
     os.killpg(process.pid, signal.SIGKILL)
     assert process.stdout
-    process.stdout.read()  # to its end, which comes when the last of them is gone
+    process.stdout.read()  # until the end, after the last process of the group has ended
 
 
 def add_init(kernel: Kernel) -> None:
     """Compiles the program that is the first process in a kernel's machines. Fault: the compiler fails."""
     words = ["cc", "-std=c17", "-O2", "-static", "-s", "-o", str(kernel.init), *map(str, INIT)]
-    with scratch() as place:  # for what a compiler leaves that is killed
+    with scratch() as place:  # contains the temporary files of a compiler that is killed
         answer = asked(words, statuses=(0, 1), env={**os.environ, "TMPDIR": str(place)})
     if answer.status:
         raise Fault(f"{INIT[0]} isn't compiled: {answer.told}", FAILED)
@@ -175,7 +177,7 @@ def kept_as(new: Path, folder: Path) -> Kernel:
         try:
             exchange(str(new), str(folder))
             return Kernel(folder)
-        except OSError:  # a file system that can't
+        except OSError:  # the file system can't exchange folders
             shutil.rmtree(folder, ignore_errors=True)
     new.rename(folder)
     return Kernel(folder)

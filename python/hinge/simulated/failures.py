@@ -15,7 +15,7 @@ if TYPE_CHECKING:
     from pathlib import Path
 
 LIKE = "--like"
-WORDS_KEY, NET_KEY = "words", "net"  # what the file has beside the summary
+WORDS_KEY, NET_KEY = "words", "net"  # the file's entries that a summary lacks
 TRIES = 100  # to share a file that another run is writing or removing
 
 
@@ -59,16 +59,17 @@ def file_beside(path: Path, text: str) -> Iterator[Path]:
         try:
             yield file
         finally:
-            with suppress(OSError):  # another run has it still
+            with suppress(OSError):  # another run still uses the file
                 fcntl.flock(held, fcntl.LOCK_EX | fcntl.LOCK_NB)
                 file.unlink()
 
 
 def like_file(words: "list[str]") -> Optional[str]:
     """Returns the value of the option --like, if given. Words after `--` are a command's, and don't count."""
-    front = words[: words.index("--")] if "--" in words else words
-    values = [word.partition("=")[2] for word in front if word.startswith(f"{LIKE}=")]
-    return next((value for word, value in zip(front, front[1:]) if word == LIKE), values[0] if values else None)
+    options = words[: words.index("--")] if "--" in words else words
+    separate_values = [value for word, value in zip(options, options[1:]) if word == LIKE]
+    values = [word.partition("=")[2] for word in options if word.startswith(f"{LIKE}=")]
+    return next(iter([*separate_values, *values]), None)
 
 
 def failure_in(words: "list[str]") -> "dict[str, Any]":
@@ -82,7 +83,7 @@ def failure_in(words: "list[str]") -> "dict[str, Any]":
     try:
         record = read_object(path, "no summary")
     except (OSError, Fault):
-        return {}  # which is told where the file is compared
+        return {}  # the comparison with the file reports the error
     return record if isinstance(record.get(WORDS_KEY), list) else {}
 
 

@@ -16,16 +16,16 @@ from hinge.run.words import Wrong, duration
 
 PACKAGES = str(Path(__file__).resolve().parents[2])
 OWN_FOLDERS = ("/dev", "/proc", "/run", "/sys")  # folders that the machine has of its own
-# What differs by how a shell starts a command.
+# Variables that depend on the way in which a shell starts a command.
 OF_SHELLS = {"_", "OLDPWD", "SHLVL"}
-# What names sockets and terminals of the system, which aren't in the machine, or differs from login to login.
+# Variables that name sockets and terminals of the system, which a machine lacks, or that differ from login to login.
 OF_SESSIONS = set(
     """DBUS_SESSION_BUS_ADDRESS DISPLAY GPG_TTY SSH_AGENT_PID SSH_AUTH_SOCK SSH_CLIENT SSH_CONNECTION SSH_TTY STY TMUX TMUX_PANE
     WAYLAND_DISPLAY WINDOWID XDG_RUNTIME_DIR XDG_SESSION_ID""".split()
 )
 SHELLS = {"bash", "dash", "fish", "ksh", "sh", "zsh"}
-CLEAN = {"HOME", "LANG", "LOGNAME", "USER"}  # of the user's own, where few are wanted
-PATH = "/usr/local/sbin:/usr/local/bin:/usr/sbin:/usr/bin:/sbin:/bin"  # and this one
+CLEAN = {"HOME", "LANG", "LOGNAME", "USER"}  # the user's variables that --clean-env keeps
+PATH = "/usr/local/sbin:/usr/local/bin:/usr/sbin:/usr/bin:/sbin:/bin"  # the variable PATH with --clean-env
 BEGIN = "import sys; sys.path.insert(0, sys.argv.pop(1)); from hinge.net.begun import begin_inside; begin_inside()"
 
 
@@ -33,10 +33,10 @@ class Job(NamedTuple):
     """Describes a machine's job: a command with its standard input, environment and rooms."""
 
     words: Sequence[str]
-    input: Path  # a file that is its standard input
-    is_one_stream: bool  # whether its output and its errors go to one place
+    input: Path  # the file that is the command's standard input
+    is_one_stream: bool  # whether output and errors are one stream
     names: Sequence[str]  # the environment, as NAME=value
-    rooms: Sequence[str] = ()  # the plan of the rooms in which the command is, where it is in some
+    rooms: Sequence[str] = ()  # the texts from which the first process creates the command's rooms, if any
 
     def text(self, *settings: str) -> bytes:
         """Returns the settings, user, folder, command, environment and rooms as NUL-terminated strings, which the machine's first
@@ -53,8 +53,9 @@ class Job(NamedTuple):
             "user": words_in_bytes([str(os.getuid()), str(os.getgid())]),
             "folder": words_in_bytes([folder()]),
             "input": self.input.read_bytes(),
-            **({"link": words_in_bytes([text for text in self.rooms if text != may_ping()])} if self.rooms else {}),
         }
+        if self.rooms:
+            parts["link"] = words_in_bytes([text for text in self.rooms if text != may_ping()])
         return {name: hashlib.sha256(part).hexdigest()[:16] for name, part in parts.items()}
 
 
@@ -100,7 +101,7 @@ def refuse_outside(options: SimulatedOptions, has_terminal: bool) -> None:
     command = options.command
     if has_terminal and len(command) == 1 and os.path.basename(command[0]) in SHELLS:
         raise Wrong(
-            f"--simulated: there is no terminal in simulated time; give {command[0]} its commands by -c " "or on standard input"
+            f"--simulated: there is no terminal in simulated time; give {command[0]} its commands by -c or on standard input"
         )
 
 

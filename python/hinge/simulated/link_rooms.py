@@ -20,7 +20,7 @@ from hinge.run.words import duration
 from hinge.simulated.job import root_of
 from hinge.simulated.verdict import MachineVerdict, of_wait
 
-LINK = "/run/hinge/link"  # a copy in the machine's folder, whose name is the same wherever hinge is installed
+LINK = "/run/hinge/link"  # a copy of the link's program, whose path doesn't depend on hinge's installation
 TERMINATED = SIGNALLED + 15
 Tell = Callable[[str], None]
 
@@ -77,7 +77,8 @@ class LinkRun(NamedTuple):
     def ended(self, folder: Path) -> Optional[MachineVerdict]:
         """Returns the program's verdict, if the program ended by itself."""
         words = "".join(first_process_lines(folder)).split()
-        return of_wait(int(words[1])) if words and int(words[0]) else None
+        has_ended = bool(words) and int(words[0]) != 0
+        return of_wait(int(words[1])) if has_ended else None
 
     def report(self, folder: Path, summary: Path, verdict: Optional[MachineVerdict], tell: Tell) -> int:
         """Reports on the links, writes the summary to a file, and returns the run's status."""

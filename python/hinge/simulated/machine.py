@@ -25,37 +25,39 @@ from hinge.simulated.stood import Stood, make_place, stood
 from hinge.simulated.streams import MOST_AHEAD, Copier
 
 BOOTED = 1000  # s of uptime with which a job begins
-LOG_LINES = 3
-TIMED_OUT = 124  # as that of timeout(1)
-SIGNALLED = 128
-NO_LIFE, OVER = signal.SIGUSR1, signal.SIGALRM  # why a machine ends its job: nothing of it will ever wake, or its time is over
-LIBRARIES, LIBRARIES_SIZE = "/etc/ld.so.cache", 1 << 20
-NO_CORES, OF_DEADLOCK, ALL_CORES = "none", "deadlock", "all"  # cores that the launcher looks at
+LOG_LINES = 3  # the last lines of the kernel's log that an error contains
+TIMED_OUT = 124  # the status of a run that --real-limit ended, like that of timeout(1)
+SIGNALLED = 128  # with a signal's number, the status of a run that the signal ended
+NO_LIFE = signal.SIGUSR1  # a machine ends its job with this signal if no process can wake any more
+OVER = signal.SIGALRM  # a machine ends its job with this signal at --limit
+LIBRARIES = "/etc/ld.so.cache"
+LIBRARIES_SIZE = 1 << 20
+NO_CORES, OF_DEADLOCK, ALL_CORES = "none", "deadlock", "all"  # which processes leave a core for the launcher
 
 
 class Settings(NamedTuple):
     """Holds the properties of a machine."""
 
     seed: int
-    at: int  # s since 1970, with which the job begins
+    at: int  # the clock at the job's begin, in s since 1970
     memory: int  # bytes
     cpu: str
-    scratch: bool  # whether what is written in it is thrown away
-    pauses: Optional[Pauses] = None  # of its processes
-    limit: int = 0  # ns of simulated time, or 0
-    root: Optional[str] = None  # a folder that is the machine's root, of which nothing is written
+    scratch: bool  # whether the machine throws away all written files
+    pauses: Optional[Pauses] = None  # the pauses of the machine's processes
+    limit: int = 0  # ns of simulated time; 0 means no limit
+    root: Optional[str] = None  # a folder that is the machine's root, and isn't written to
     more: "tuple[str, ...]" = ()  # lines for /proc/pauses: `keep CALLS`, and `core CALL`
-    cores: str = NO_CORES  # which processes leave a core for the launcher
+    cores: str = NO_CORES  # the kind of processes that leave a core
 
 
 class MachineEnded(NamedTuple):
     """Describes how a job ended; times are in ns of simulated time."""
 
     status: int
-    simulated: int
-    spun: int
-    waited: int = 0  # the status as wait(2) tells it
-    cut: int = 0  # the signal by which the machine ended it: NO_LIFE, OVER or 0
+    simulated: int  # the job's length
+    spun: int  # the part of it that spinning processes got
+    waited: int = 0  # the status of wait(2)
+    cut: int = 0  # the signal with which the machine ended the job: NO_LIFE, OVER or 0
 
 
 def kernel_words(kernel: Kernel, settings: Settings) -> list[str]:
@@ -96,8 +98,9 @@ class Machine:
     def __init__(self, kernel: Kernel, settings: Settings, job: Job, place: Optional[str] = None) -> None:
         """Starts a machine. The caller's folder `place`, if given, keeps the job's files after `remove`. Missing: a limit of this
         process is too low, or no folder can hold the machine's memory."""
-        if few := too_few():
-            raise Missing(few)
+        fault = too_few()
+        if fault:
+            raise Missing(fault)
         self.room = Room(settings.memory, place)
         self.job = job
         self.root = settings.root
@@ -113,7 +116,7 @@ class Machine:
         self.interrupts = Interrupts(self.process.pid)
         self.copiers = list[Copier]()
         self.is_held = False
-        self.cut: Optional[int] = None  # the status of a run that was ended from outside
+        self.cut: Optional[int] = None  # the run's status if `end` killed the machine
 
     @property
     def folder(self) -> Path:
@@ -123,7 +126,9 @@ class Machine:
         """Writes the files for the machine's first process (init). Init's program is a new copy in each run, since a file's age
         could influence the run."""
         pauses = "\n".join([*(settings.pauses.lines() if settings.pauses else ()), *settings.more])
-        kind = "own" if settings.root else "scratch" if settings.scratch else "files"
+        kind = "scratch" if settings.scratch else "files"
+        if settings.root:
+            kind = "own"
         (self.folder / "job").write_bytes(self.job.text(kind, pauses, str(settings.limit), settings.cores))
         if settings.root:
             (self.folder / "root").symlink_to(settings.root)
@@ -168,9 +173,12 @@ class Machine:
     def hold_back(self) -> None:
         """Stops a machine, and so its simulated time, while the machine is far ahead of its output's reader."""
         ahead = max((copier.ahead() for copier in self.copiers), default=0)
-        if self.is_held != (ahead > (MOST_AHEAD / 2 if self.is_held else MOST_AHEAD)):
-            self.is_held = not self.is_held
-            self.process.send_signal(signal.SIGSTOP if self.is_held else signal.SIGCONT)
+        if not self.is_held and ahead > MOST_AHEAD:
+            self.is_held = True
+            self.process.send_signal(signal.SIGSTOP)
+        elif self.is_held and ahead <= MOST_AHEAD / 2:
+            self.is_held = False
+            self.process.send_signal(signal.SIGCONT)
 
     def wait(self, limit: Optional[float] = None) -> None:
         """Waits for the machine's end. The machine is killed after `limit` seconds, or if its output loses the reader."""
@@ -225,11 +233,10 @@ class Machine:
     def fault(self) -> Missing:
         """Returns the error and its cause for a machine that ended before its job, although nobody killed the machine."""
         report = self.folder / "fault"
-        text = (
-            report.read_text()
-            if report.exists()
-            else why(self.log(), self.memory) or "; ".join(self.log().splitlines()[-LOG_LINES:])
-        )
+        if report.exists():
+            text = report.read_text()
+        else:
+            text = why(self.log(), self.memory) or "; ".join(self.log().splitlines()[-LOG_LINES:])
         return Missing(f"the simulated machine ended by itself: {text.strip()}")
 
     @property

@@ -7,11 +7,11 @@ import re
 import resource
 from typing import Optional
 
-GAP = 1 << 30  # bytes of addresses that a machine takes beside its memory
-# Limits that programs share with their machine, what they are of, how a shell raises them, and what the machine itself may take.
+GAP = 1 << 30  # bytes of addresses that a machine needs in addition to its memory
+# Limits that programs share with their machine: the limit, its subject, ulimit's option, and the machine's least.
 NEEDED = (
     (resource.RLIMIT_NOFILE, "open files", "-Hn", 64),
-    (resource.RLIMIT_NPROC, "processes", "-Hu", 64),  # which root hasn't
+    (resource.RLIMIT_NPROC, "processes", "-Hu", 64),  # root has no such limit
 )
 TRACED = re.compile(r"ptrace: (?:Operation not permitted|Permission denied)|check_ptrace|PTRACE_\w+ failed|errno = 1\b")
 NO_MEMORY = re.compile(r"errno = -12\b|Cannot allocate memory")
@@ -43,7 +43,8 @@ def too_few() -> Optional[str]:
 
 def why(log: str, memory: int) -> Optional[str]:
     """Returns the cause of a machine's early end, if known. `memory` is the machine's memory in bytes."""
-    size, addresses = system_limit(resource.RLIMIT_FSIZE), system_limit(resource.RLIMIT_AS)
+    size = system_limit(resource.RLIMIT_FSIZE)
+    addresses = system_limit(resource.RLIMIT_AS)
     if TRACED.search(log):
         return (
             "the system keeps a process from tracing another one (ptrace), by which a machine runs programs: "
@@ -58,4 +59,6 @@ def why(log: str, memory: int) -> Optional[str]:
         )
     if NO_MEMORY.search(log):
         return f"the system doesn't give it {memory >> 20} MB of memory: --memory asks for less"
-    return "the place of its memory is full: --memory asks for less" if NO_ROOM.search(log) else None
+    if NO_ROOM.search(log):
+        return "the place of its memory is full: --memory asks for less"
+    return None

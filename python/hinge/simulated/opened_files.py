@@ -12,9 +12,9 @@ from typing import Any, Iterator, Optional
 from hinge.simulated.job import OWN_FOLDERS
 
 PIECE = 1 << 20
-OWN_ROOT = "//proc/self/cwd/root/"  # as the kernel names what is in the folder of --root
-ABSENT = "-"  # before a name that was looked for in vain
-known: "dict[tuple[int, int, int, int], str]" = {}  # what many runs of one process read is summed once
+OWN_ROOT = "//proc/self/cwd/root/"  # the kernel's name for the folder of --root
+ABSENT = "-"  # before the name of a file that a program didn't find
+known: "dict[tuple[int, int, int, int], str]" = {}  # the checksums of files, since this process may launch many runs
 
 
 def sha256_of(path: "str | Path") -> str:

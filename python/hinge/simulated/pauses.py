@@ -14,47 +14,50 @@ from hinge.run.words import duration
 from hinge.simulated.calls_of_linux import call_name
 
 DRAWN = "drawn"
-RAREST, OFTENEST = 14, 4  # powers of two: of calls between two pauses at most, where the seed draws them
-LONGEST = 22  # the longest pause is 2^22 us and as much again
-GENTLE = 10  # the longest one of some seeds
-STEPS = 11  # a pause between two calls is 2^11 instructions behind the first one at most, and as many again
-LONG = 3  # by half of the seeds that draw pauses, all are of an eighth of the longest at least
-MOST_GIVEN = 256  # the kernel's PAUSES_KEPT
-SHOWN = 10  # pauses that are told in words
+PAUSE = re.compile(r"(\d{1,12})([-+])([\d.]{1,20}[mun]?s)(?:@(\d{1,6}))?", re.ASCII)  # as in 2304+5us@250
+OFTENEST, RAREST = 4, 14  # the range of a seed's power of two: the most calls between two pauses that the seed draws
+GENTLE, LONGEST = 10, 22  # the range of a seed's power of two for its longest pauses: 2^22 us, and as much again
+STEPS = 11  # a pause between two calls begins at most 2^11 instructions after the first call, and as many again
+LONG = 3  # half of the seeds draw no pause below an eighth (2^-3) of their longest
+MOST_GIVEN = 256  # the greatest number of pauses, PAUSES_KEPT in the kernel
+SHOWN = 10  # the greatest number of pauses that a report lists
 NO_PAUSES = "neither pauses one by one, as 1034-16ms,2200+0.5s,2304+5us@250, nor `drawn`"
 
 
 class Given(NamedTuple):
     """Describes a pause that the user listed or the seed drew."""
 
-    call: int  # its number, among those that may pause
-    where: str
-    ns: int
-    steps: int = 0  # instructions behind the call, where other processes have the same memory
+    call: int  # the number of the call, among the calls that may pause
+    where: str  # `before` or `behind` the call
+    ns: int  # the length
+    steps: int = 0  # instructions after the call, if other threads have the same memory
 
     def word(self) -> str:
         """Returns the pause in the form of --pauses."""
-        return f"{self.call}{'-' if self.where == 'before' else '+'}{self.ns}ns" + (f"@{self.steps}" if self.steps else "")
+        sign = "-" if self.where == "before" else "+"
+        steps = f"@{self.steps}" if self.steps else ""
+        return f"{self.call}{sign}{self.ns}ns{steps}"
 
 
 class Pauses(NamedTuple):
     """Holds the value of --pauses, and the pauses that result."""
 
-    asked: str  # as the option has it
+    asked: str  # the option's value
     given: "tuple[Given, ...]"
 
     def lines(self) -> Iterator[str]:
         """Yields lines for the kernel. The first keeps the kernel from drawing pauses itself: 0 in 1 call, with the seed 0."""
         yield "0 1 0"
-        for one in self.given:
-            yield f"{one.call} {one.where} {one.ns}" + (f" {one.steps}" if one.steps else "")
+        for pause in self.given:
+            line = f"{pause.call} {pause.where} {pause.ns}"
+            yield f"{line} {pause.steps}" if pause.steps else line
 
 
 class Paused(NamedTuple):
     """Describes a pause that a process made; times are in ns of the machine."""
 
     at: int
-    number: int  # of the call, among those that may pause
+    number: int  # the number of the call, among the calls that may pause
     length: int
     call: str
     process: int
@@ -85,13 +88,16 @@ class PausesMade(NamedTuple):
 def given(text: str) -> "tuple[Given, ...]":
     """Reads listed pauses, and returns them in the order of their calls. Returns no pauses if the text has another form, two pauses
     are at the same call, or there are too many. Wrong: a pause's length is no time."""
-    words = [re.fullmatch(r"(\d{1,12})([-+])([\d.]{1,20}[mun]?s)(?:@(\d{1,6}))?", word, re.ASCII) for word in text.split(",")]
-    items = {
-        Given(int(one[1]), "before" if one[2] == "-" else "behind", duration(one[3]), int(one[4] or 0)) for one in words if one
-    }
-    if any(one.steps and one.where == "before" for one in items):
+    words = text.split(",")
+    pauses = list[Given]()
+    for match in (PAUSE.fullmatch(word) for word in words):
+        if match:
+            where = "before" if match[2] == "-" else "behind"
+            pauses.append(Given(int(match[1]), where, duration(match[3]), int(match[4] or 0)))
+    calls = {pause.call for pause in pauses}
+    if any(pause.steps and pause.where == "before" for pause in pauses):
         return ()
-    return tuple(sorted(items)) if len({one.call for one in items}) == len(words) <= MOST_GIVEN else ()
+    return tuple(sorted(pauses)) if len(calls) == len(words) <= MOST_GIVEN else ()
 
 
 def number_from_text(text: str) -> int:

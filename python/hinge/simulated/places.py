@@ -17,8 +17,8 @@ GDB = "gdb"
 FRAME = re.compile(r"#\d+ +(?:0x[0-9a-f]+ in )?(\S+) \(.*?\)(?: at (\S+))?( from \S+)?$")
 THREAD = re.compile(r"Thread \d+ .*\(?LWP (\d+)\)")
 PROGRAM = re.compile(r'AT_EXECFN .* "(.*)"$', re.MULTILINE)
-FRAMES = 4  # that are told
-LONGEST = 30  # s that gdb has for a core
+FRAMES = 4  # the most functions of a place
+LONGEST = 30  # s after which gdb is ended
 
 
 def has_debugger() -> bool:
@@ -38,7 +38,8 @@ def debugger(root: Optional[str], core: Path, *commands: str) -> str:
 def innermost_place(lines: "list[str]") -> str:
     """Returns the innermost functions in the lines of a backtrace, each with its file and line, if known. Prefers the program's
     functions; without any, returns functions of libraries."""
-    frames = [(one[1], one[2] or "", one[3]) for line in lines if (one := FRAME.match(line)) and one[1] != "??"]
+    matches = [match for match in map(FRAME.match, lines) if match and match[1] != "??"]
+    frames = [(match[1], match[2] or "", match[3]) for match in matches]
     own = [frame for frame in frames if not frame[2] and not frame[1].startswith(("../", "./"))]
     return " < ".join(f"{name} ({basename(file)})" if file else name for name, file, _ in (own or frames)[:FRAMES])
 
@@ -66,7 +67,7 @@ def with_places(threads: "tuple[Waiting, ...]", folder: Path, root: Optional[str
     """Returns the threads with their places, if gdb finds them. In another namespace threads have other numbers, but the same
     order, which pairs threads and places."""
     result = list[Waiting]()
-    for process, group in groupby(sorted(threads, key=Waiting.numbers), lambda one: one.process):
+    for process, group in groupby(sorted(threads, key=Waiting.numbers), lambda thread: thread.process):
         places = (text for _, text in sorted(backtraces(folder, process, root)))
-        result += [one._replace(place=next(places, "")) for one in group]
+        result += [thread._replace(place=next(places, "")) for thread in group]
     return tuple(result)

@@ -59,7 +59,8 @@ InRooms = Union[LinkRun, "NetRun"]
 def settings_of(options: SimulatedOptions, seed: int) -> Settings:
     """Returns the settings of a machine for these options, with a seed's pauses."""
     at = date(BEGINNING) if options.at is None else options.at
-    memory, cpu = options.memory or size(MEMORY), options.cpu or "stable"
+    memory = options.memory or size(MEMORY)
+    cpu = options.cpu or "stable"
     scratch = options.scratch or options.twice
     pauses = pauses_of(options.pauses, seed)
     cores = OF_DEADLOCK if has_debugger() else NO_CORES
@@ -104,7 +105,7 @@ def planned(options: SimulatedOptions) -> Planned:
     if isinstance(options, RunOptions):
         rooms = link_run(options, seed, transcript_of(options))
     elif isinstance(options, NetOptions):
-        from hinge.simulated.net_machine import net_run  # which `hinge run` needs not
+        from hinge.simulated.net_machine import net_run  # `hinge run` doesn't need this module
 
         rooms = net_run(options, seed, transcript_of(options))
     if options.root and rooms is None:
@@ -115,18 +116,18 @@ def planned(options: SimulatedOptions) -> Planned:
 @contextmanager
 def ending(machines: "list[Machine]") -> Iterator[list[int]]:
     """Yields the list of the signals that come (SIGINT, SIGTERM and SIGHUP). Each signal also kills the machines."""
-    came: list[int] = []
+    signals: list[int] = []
 
     def end(number: int, frame: object) -> None:
-        came.append(number)
+        signals.append(number)
         for machine in machines:
-            machine.end(128 + number)
+            machine.end(SIGNALLED + number)
 
-    before = {number: signal.signal(number, end) for number in (signal.SIGINT, signal.SIGTERM, signal.SIGHUP)}
+    earlier_handlers = {number: signal.signal(number, end) for number in (signal.SIGINT, signal.SIGTERM, signal.SIGHUP)}
     try:
-        yield came
+        yield signals
     finally:
-        for number, handler in before.items():
+        for number, handler in earlier_handlers.items():
             signal.signal(number, handler)
 
 
@@ -144,13 +145,15 @@ def hand_over(machine: Machine, transcript: Optional[str]) -> None:
 
 def verdict_of(machine: Machine, rooms: Optional[InRooms], summary: "dict[str, Any]") -> Optional[MachineVerdict]:
     """Returns the verdict on the program: how the program ended, or why it didn't. None: the program didn't start."""
-    endings, start = machine.ended(), BOOTED * 10**9
     if machine.cut is not None:
         stood = machine.stood()
-        by, name = (REAL_LIMIT, None) if machine.cut == TIMED_OUT else (OUTSIDE, signal_name(machine.cut - SIGNALLED))
-        return MachineVerdict(by, machine.cut, name, stood.now / 1e9 if stood else None)
+        moment_of_kill = stood.now / 1e9 if stood else None
+        if machine.cut == TIMED_OUT:
+            return MachineVerdict(REAL_LIMIT, machine.cut, None, moment_of_kill)
+        return MachineVerdict(OUTSIDE, machine.cut, signal_name(machine.cut - SIGNALLED), moment_of_kill)
+    endings = machine.ended()
     if endings and endings.cut:
-        moment, threads = waits(machine.folder / "waits", start)
+        moment, threads = waits(machine.folder / "waits", BOOTED * 10**9)
         if endings.cut == NO_LIFE:
             return MachineVerdict(DEADLOCK, DEADLOCKED, None, moment, with_places(threads, machine.folder, machine.root))
         return MachineVerdict(LIMIT, LIMITED, None, endings.simulated / 1e9, threads)
@@ -159,13 +162,14 @@ def verdict_of(machine: Machine, rooms: Optional[InRooms], summary: "dict[str, A
     return MachineVerdict(ITSELF, summary["status"]) if isinstance(summary.get("status"), int) else None
 
 
-def told_simulated(endings: MachineEnded, verdict: Optional[MachineVerdict]) -> MachineEnded:
+def result_until_deadlock(endings: MachineEnded, verdict: Optional[MachineVerdict]) -> MachineEnded:
     """Returns the machine's result; after a deadlock, the simulated time is the deadlock's moment."""
-    is_dead = verdict is not None and verdict.by == DEADLOCK and verdict.at is not None
-    return endings._replace(simulated=round(verdict.at * 1e9)) if is_dead else endings  # type: ignore[union-attr, operator]
+    if verdict is None or verdict.by != DEADLOCK or verdict.at is None:
+        return endings
+    return endings._replace(simulated=round(verdict.at * 1e9))
 
 
-def told_cut(verdict: MachineVerdict, options: SimulatedOptions) -> Iterator[str]:
+def messages_of_end(verdict: MachineVerdict, options: SimulatedOptions) -> Iterator[str]:
     """Yields messages about a program that didn't end by itself, except if somebody ended the run from outside."""
     if verdict.by == REAL_LIMIT:
         yield f"it was ended after {real_limit_of(options):g} s of real time, by --real-limit"
@@ -205,24 +209,27 @@ def reported(machine: Machine, plan: Planned, kernel: Kernel, files: bool, is_to
     rooms = plan.rooms if (machine.folder / "ran").exists() else None
     verdict = verdict_of(machine, rooms, summary_of(machine))
     is_cut = verdict is not None and verdict.by not in (ITSELF, SIGNAL)
-    status = machine.cut if machine.cut is not None else endings.status if endings else 0
+    status = endings.status if endings else 0
+    if machine.cut is not None:
+        status = machine.cut
     if rooms:
         status = rooms.report(machine.folder, machine.room.kept / MACHINE_SUMMARY, verdict, say if is_told else lambda line: None)
     if is_cut and verdict:
         status = verdict.status
-        for line in told_cut(verdict, options) if is_told else ():
-            say(line)
+    for line in messages_of_end(verdict, options) if is_cut and verdict and is_told else ():
+        say(line)
     record: Record = {"format": FORMAT, "seed": plan.seed, **summary_of(machine)}
-    if verdict:
-        own = {"ended": verdict.record()} if has_begun(machine, options, verdict) else {}
-        record = {**record, **({"status": status} if is_cut else {}), **own}
+    if is_cut:
+        record["status"] = status
+    if verdict and has_begun(machine, options, verdict):
+        record["ended"] = verdict.record()
     if endings:
-        outcome = RunOutcome.of(machine, told_simulated(endings, verdict), settings)
+        outcome = RunOutcome.of(machine, result_until_deadlock(endings, verdict), settings)
         if settings.pauses and not outcome.pauses:
             raise Missing("--pauses: this kernel has none; `hinge kernel` builds one that has")
         for line in outcome.lines() if not options.quiet else []:
             say(line)
-        record = {**record, **outcome.record(kernel)}
+        record.update(outcome.record(kernel))
     if files:
         record.update(files_record(machine.folder, machine.root))
     return Reported(status, verdict, record)
@@ -233,10 +240,12 @@ def report_of_machine(machine: Machine, plan: Planned, kernel: Kernel) -> int:
     written, such as to a full disk."""
     options = plan.options
     hand_over(machine, options.transcript)
-    if (fault := machine.lost()) and fault.errno != errno.EPIPE:
+    fault = machine.lost()
+    if fault and fault.errno != errno.EPIPE:
         raise fault
     result = reported(machine, plan, kernel, bool(options.json or options.like))
-    if machine.cut == TIMED_OUT and (stood := machine.stood()):
+    stood = machine.stood() if machine.cut == TIMED_OUT else None
+    if stood:
         say(stood.line())
     if options.like and machine.cut is None:
         for line in remarks(options.like, earlier(options.like), result.record):
@@ -251,19 +260,19 @@ def run_simulated(options: SimulatedOptions) -> int:
     """Runs a link or a net in simulated time, and with --twice a second time beside; returns the status."""
     refuse_outside(options, has_terminal())
     if options.like:
-        earlier(options.like)  # so that a wrong one is told before a machine is made
+        earlier(options.like)  # a wrong file is reported before a machine starts
     limit = real_limit_of(options)
     kernel = usable_kernel()
     plan = planned(options)
     machines = list[Machine]()
-    with scratch() as place, ending(machines) as came:
+    with scratch() as place, ending(machines) as signals:
         read_input(place / "in")
         job = plan.job(place / "in", is_same_file(1, 2) and not options.twice)
         try:
-            for part in [options.kept, None] if options.twice else [options.kept]:
-                machines.append(Machine(kernel, plan.settings, job, part))
-            if came:
-                return 128 + came[0]
+            for folder in [options.kept, None] if options.twice else [options.kept]:
+                machines.append(Machine(kernel, plan.settings, job, folder))
+            if signals:
+                return SIGNALLED + signals[0]
             machines[0].copy_to(1, 2, keeps=options.twice)
             others = [threading.Thread(target=machine.wait, args=(limit,)) for machine in machines[1:]]
             for other in others:

@@ -201,8 +201,8 @@ class SimulatedPath(Emulated):
         """Returns whether a link disturbed a packet: lost the packet, had a full queue or no target, doubled the packet, or delayed
         the packet by a jitter or a fault. A link with `copies` always counts as disturbed. None: no packet came."""
         links = self.net.links.values()
-        queued, *others = [sum(link.outcomes[outcome] for link in links) for outcome in Outcome]
-        if not queued and not any(others):
+        successes, *others = [sum(link.outcomes[outcome] for link in links) for outcome in Outcome]
+        if not successes and not any(others):
             return None
         has_copies = any(link.copies is not None or link.pipes for link in links)
         return any(others) or has_copies or bool(self.net.happened)

@@ -118,8 +118,8 @@ class Table:
             self.unwatched = self.unwatched or real["unwatched"]
         if "hingetulip searched" in properties:
             self.searched[report.nodeid] = properties["hingetulip searched"]
-        shared = properties.get(SHARED, ()) if is_passed_call else ()
-        for node, word, reasons in shared:
+        rows_of_marks = properties.get(SHARED, ()) if is_passed_call else ()
+        for node, word, reasons in rows_of_marks:
             self.shared[node, word] = self.shared.get((node, word), reasons) if reasons else []
         row = properties.get(NAME) if report.when == "call" else None
         if not isinstance(row, dict):
