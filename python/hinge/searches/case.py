@@ -153,7 +153,6 @@ def least(case: Case, fails: Fails) -> Case:
 
 
 def least_of_kind(case: Case, kind: str, fails: Fails) -> Case:
-    """Leaves out parts of a kind, in groups that get smaller."""
     size = len(case.of_kind(kind))
     while size:
         case = left_out_by(case, kind, size, fails)

@@ -80,7 +80,6 @@ def smallest(runs: Runs, seed: int) -> "tuple[Case, int]":
 
 
 def command_of(options: SearchSettings, what: "list[str]", seed: int, pauses: Optional[str]) -> str:
-    """Returns the command line as text for a shell."""
     return shlex.join(["hinge", *command_words(options, what, seed, pauses)])
 
 

@@ -143,7 +143,6 @@ class Build:
 
 
 def begin_group() -> None:
-    """Makes this process, a new child, the leader of a process group that dies with its parent."""
     os.setpgid(0, 0)
     die_with_parent()
 

@@ -28,5 +28,4 @@ NAMES = {
 
 
 def call_name(call: int) -> str:
-    """Returns the name of a system call; for an unknown number, a text such as `call 999`."""
     return NAMES.get(call, f"call {call}")

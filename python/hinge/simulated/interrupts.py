@@ -59,7 +59,6 @@ class Interrupts:
         self.longest = 0.0  # the longest observed computation without a call, in s of processor time
 
     def looks(self) -> Iterator[tuple[int, Look]]:
-        """Yields the machine's processes with their present states."""
         for process in children(self.machine):
             look = look_at(process)
             if look:

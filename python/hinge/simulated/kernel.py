@@ -79,7 +79,6 @@ def folder_of(version: str) -> Path:
 
 
 def version_numbers(folder: Path) -> list[int]:
-    """Returns the numbers of the Linux version in a folder's name, for comparisons."""
     return [int(part) if part.isdecimal() else 0 for part in folder.name.partition("-")[0].split(".")]
 
 

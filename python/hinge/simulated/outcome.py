@@ -29,7 +29,6 @@ class RunOutcome(NamedTuple):
 
     @classmethod
     def of(cls, machine: Machine, endings: MachineEnded, settings: Settings) -> RunOutcome:
-        """Returns the outcome of a machine's run."""
         real = machine.real()
         interrupts = machine.interrupts
         hides = machine.hides_the_processor
@@ -73,7 +72,6 @@ class RunOutcome(NamedTuple):
         yield self.line()
 
     def pauses_record(self) -> "dict[str, Any]":
-        """Returns the summary's entry on the pauses, if there were pauses."""
         if not (self.pauses and self.settings.pauses):
             return {}
         asked = self.settings.pauses

@@ -69,7 +69,6 @@ class Paused(NamedTuple):
         return Given(self.number, self.where, self.length, self.steps)
 
     def text(self) -> str:
-        """Returns a line of the report on this pause."""
         return (
             f"{self.given().word()}: process {self.process} ({self.program}) paused for {self.length / 1e6:.3f} ms "
             f"{several(self.steps, 'instruction') + ' ' if self.steps else ''}{self.where} {self.call}"

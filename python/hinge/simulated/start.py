@@ -57,7 +57,6 @@ InRooms = Union[LinkRun, "NetRun"]
 
 
 def settings_of(options: SimulatedOptions, seed: int) -> Settings:
-    """Returns the settings of a machine for these options, with a seed's pauses."""
     at = date(BEGINNING) if options.at is None else options.at
     memory = options.memory or size(MEMORY)
     cpu = options.cpu or "stable"

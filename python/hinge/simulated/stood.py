@@ -23,7 +23,6 @@ class Stood(NamedTuple):
     program: str
 
     def line(self) -> str:
-        """Returns the state as a sentence."""
         where = f"simulated time was at {self.now / 1e9:.6f} s"
         last = f"the last was {self.call} by process {self.process} ({self.program})"
         if self.calls < MANY:

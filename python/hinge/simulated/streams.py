@@ -50,7 +50,6 @@ class Copier(threading.Thread):
         return bool(data)
 
     def run(self) -> None:
-        """Copies until the file is complete or a write fails."""
         try:
             while True:
                 last = self.is_last

@@ -55,7 +55,6 @@ def pauses_word(text: str) -> str:
 
 
 def add_simulated(parser: Parser) -> None:
-    """Adds the options to a command's parser, with their relations to other options."""
     group = parser.add_argument_group("simulated time (hinge docs SIMULATED)")
     add(
         group,

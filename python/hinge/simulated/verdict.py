@@ -70,7 +70,6 @@ class MachineVerdict(NamedTuple):
         return self.by
 
     def line(self) -> str:
-        """Returns the verdict as a sentence."""
         if self.by == ITSELF:
             return f"the program ended with {self.status}"
         if self.by == SIGNAL:
@@ -91,7 +90,6 @@ class MachineVerdict(NamedTuple):
             yield f"and {len(self.waiting) - SHOWN} more threads"
 
     def record(self) -> "dict[str, Any]":
-        """Returns the verdict as an entry of the summary."""
         entry: "dict[str, Any]" = {"by": self.by, "status": self.status, "name": self.name()}
         if self.signal is not None:
             entry["signal"] = self.signal

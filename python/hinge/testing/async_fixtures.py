@@ -53,7 +53,6 @@ def synchronous(call: Callable[..., Any], net: Network) -> Callable[..., Any]:
 
 
 async def step(generator_of_loop: AsyncGenerator[object, None]) -> object:
-    """Returns the next value of an asynchronous generator."""
     return await generator_of_loop.__anext__()
 
 

@@ -134,7 +134,6 @@ class Trials:
 
 
 def text_of(faults: Faults, count: int, trials: Trials) -> str:
-    """Returns the shrunk faults of a failure as text, with their number and the number of runs."""
     return f"{faults}fails by {len(faults)} of {count} faults, found in {trials.count} runs"
 
 
