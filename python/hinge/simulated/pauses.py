@@ -109,19 +109,24 @@ def number_from_text(text: str) -> int:
 def drawn_pauses(seed: int) -> Iterator[Given]:
     """Yields the pauses that a seed draws. Their distances grow up to the seed's maximum, so that short runs pause, too, and few
     calls pause."""
-    rare, longest, are_long = (number_from_text(f"{what} {seed}") for what in ("how often", "longest", "how long"))
-    most = 2 ** (rare % (RAREST - OFTENEST + 1) + OFTENEST)
-    are_stepped = number_from_text(f"between {seed}") % 2  # by half of the seeds pauses are between calls
-    longest = longest % (LONGEST - GENTLE + 1) + GENTLE
-    shortest, call = are_long % 2 * (longest - LONG), 0
+    most = 2 ** (number_from_text(f"how often {seed}") % (RAREST - OFTENEST + 1) + OFTENEST)  # calls between two pauses
+    longest = number_from_text(f"longest {seed}") % (LONGEST - GENTLE + 1) + GENTLE
+    are_long = number_from_text(f"how long {seed}") % 2 == 1
+    shortest = longest - LONG if are_long else 0
+    are_stepped = number_from_text(f"between {seed}") % 2 == 1  # half of the seeds draw pauses between calls
+    call = 0
     for _ in range(MOST_GIVEN):
         place, power, more, where = (number_from_text(f"{what} {call} {seed}") for what in ("place", "length", "more", "where"))
-        call += 1 + place % min(call // 4 + 3 if are_stepped else call * 2 // 3 + 2**OFTENEST // 2, most)
+        distance = call // 4 + 3 if are_stepped else call * 2 // 3 + 2**OFTENEST // 2
+        call += 1 + place % min(distance, most)
         span = 1000 << shortest + power % (longest - shortest + 1)
-        steps = number_from_text(f"steps {call} {seed}")
         is_before = where % (4 if are_stepped else 2) == 0
-        least = 0 if is_before or not are_stepped else 1 << steps % (STEPS + 1)
-        yield Given(call, "before" if is_before else "behind", span + more % span, least + (steps >> 8) % max(least, 1))
+        steps = 0
+        if are_stepped and not is_before:
+            number = number_from_text(f"steps {call} {seed}")
+            least = 1 << number % (STEPS + 1)
+            steps = least + (number >> 8) % least
+        yield Given(call, "before" if is_before else "behind", span + more % span, steps)
 
 
 def pauses_of(word: Optional[str], seed: int) -> Optional[Pauses]:
