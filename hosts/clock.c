@@ -1,17 +1,16 @@
-/* hinge-clock.so: what C code asks of the system while hingetulip.aio simulates time in its thread.
+/* hinge-clock.so: time, random numbers and counted calls for C code, while hingetulip.aio simulates time in a thread.
  *
- * hingetulip.aio loads it, and `hinge_border` gives each library of the process these functions in the place of the C library's: the entries
- * of their tables of relocations are written anew, once and for all, and a look-up by name, as that of ctypes, finds these, too. Between runs,
- * and in other threads, they do what the C library's do.
- *  - In the thread of a run random numbers are those of its seed, and the clock of OpenSSL is the simulated one. Where this library is
- *    preloaded, as `hinge kernel --clock` says, the clock of all C code is.
- *  - While a run lasts, calls that reach the real network, and waits of its thread, are counted by the library that makes them.
+ * hingetulip.aio loads this library. `hinge_border` then replaces functions of the C library by the functions below in each library of the
+ * process: it rewrites their tables of relocations for good, and a look-up by name, such as that of ctypes, finds the functions below, too.
+ * Between runs and in other threads they do what the C library's functions do.
+ *  - In the thread of a run, random numbers come from the run's seed, and OpenSSL gets the simulated clock. If this library is preloaded,
+ *    as `hinge kernel --clock` says, all C code gets this clock.
+ *  - During a run, calls that reach the real network, and waits of the run's thread, are counted by the library that makes them.
  */
 #define _GNU_SOURCE
 #include <dlfcn.h>
 #include <errno.h>
 #include <ifaddrs.h>
-#include <link.h>
 #include <netdb.h>
 #include <poll.h>
 #include <semaphore.h>
@@ -20,7 +19,6 @@
 #include <stdint.h>
 #include <string.h>
 #include <sys/epoll.h>
-#include <sys/mman.h>
 #include <sys/random.h>
 #include <sys/select.h>
 #include <sys/socket.h>
@@ -29,50 +27,54 @@
 #include <time.h>
 #include <unistd.h>
 
+#include "clock_tables.h"
+
 #define SECOND INT64_C(1000000000) /* ns */
 
-/* Where the simulated moment of this thread is, and when its calendar began, in ns. They are variables of the thread, since the functions below
-   get the arguments of the C library's. NOLINTBEGIN(cppcoreguidelines-avoid-non-const-global-variables) */
-static _Thread_local const int64_t *moment;
-static _Thread_local int64_t began;
-static _Thread_local _Atomic uint64_t drawn; /* the place of its random numbers */
-static _Atomic uint64_t drawn_by_openssl;    /* that of the numbers of OpenSSL, in all threads */
+/* The run of this thread. The functions below have the arguments of the C library's, so they need variables.
+   NOLINTBEGIN(cppcoreguidelines-avoid-non-const-global-variables) */
+static _Thread_local const int64_t *moment;  /* the simulated moment, in ns since the run's beginning; NULL without a run */
+static _Thread_local int64_t began;          /* the ns since 1970 at the run's beginning */
+static _Thread_local _Atomic uint64_t drawn; /* the state of the run's random numbers */
+static _Atomic uint64_t drawn_by_openssl;    /* the state of OpenSSL's random numbers, in all threads */
 /* NOLINTEND(cppcoreguidelines-avoid-non-const-global-variables) */
 
 static struct timespec of_ns(int64_t ns) { return (struct timespec){.tv_sec = ns / SECOND, .tv_nsec = ns % SECOND}; }
 
-/* The functions of the clock. Those that a preloaded library gives everybody call them, and a library that is loaded later has others by these names. */
-static int now_of(clockid_t clock, struct timespec *time) {
-    bool is_of_day = clock == CLOCK_REALTIME || clock == CLOCK_REALTIME_COARSE || clock == CLOCK_TAI;
+/* Returns the simulated time of a clock. OpenSSL gets this static function, since the name `clock_gettime` may be another library's. */
+static int simulated_clock(clockid_t clock, struct timespec *time) {
+    bool is_calendar = clock == CLOCK_REALTIME || clock == CLOCK_REALTIME_COARSE || clock == CLOCK_TAI;
     bool is_steady = clock == CLOCK_MONOTONIC || clock == CLOCK_MONOTONIC_COARSE || clock == CLOCK_MONOTONIC_RAW || clock == CLOCK_BOOTTIME;
-    if (!moment || (!is_of_day && !is_steady)) return (int)syscall(SYS_clock_gettime, clock, time);
-    *time = of_ns(is_of_day ? began + *moment : *moment);
+    if (!moment || (!is_calendar && !is_steady)) return (int)syscall(SYS_clock_gettime, clock, time);
+    *time = of_ns(is_calendar ? began + *moment : *moment);
     return 0;
 }
 
-static int now_of_day(struct timeval *restrict time, void *restrict zone) {
+static int simulated_time_of_day(struct timeval *restrict time, void *restrict zone) {
     struct timespec now;
     (void)zone;
-    now_of(CLOCK_REALTIME, &now);
+    simulated_clock(CLOCK_REALTIME, &now);
     *time = (struct timeval){.tv_sec = now.tv_sec, .tv_usec = now.tv_nsec / 1000};
     return 0;
 }
 
-int clock_gettime(clockid_t clock, struct timespec *time) { return now_of(clock, time); }
+int clock_gettime(clockid_t clock, struct timespec *time) { return simulated_clock(clock, time); }
 
-int gettimeofday(struct timeval *restrict time, void *restrict zone) { return now_of_day(time, zone); }
+int gettimeofday(struct timeval *restrict time, void *restrict zone) { return simulated_time_of_day(time, zone); }
 
 time_t time(time_t *place) {
     struct timeval now;
-    now_of_day(&now, NULL);
-    return place ? *place = now.tv_sec : now.tv_sec;
+    simulated_time_of_day(&now, NULL);
+    if (place) *place = now.tv_sec;
+    return now.tv_sec;
 }
 
-#define STEP UINT64_C(0x9E3779B97F4A7C15)
+#define STEP UINT64_C(0x9E3779B97F4A7C15) /* of splitmix64's state */
 
-static void draw(_Atomic uint64_t *place, unsigned char *to, size_t count) {
-    for (size_t n = 0; n < count; n += sizeof(uint64_t)) { /* splitmix64 */
-        uint64_t z = atomic_fetch_add(place, STEP) + STEP;
+/* Draws random bytes by splitmix64, which moves its state on. */
+static void draw(_Atomic uint64_t *state, unsigned char *to, size_t count) {
+    for (size_t n = 0; n < count; n += sizeof(uint64_t)) {
+        uint64_t z = atomic_fetch_add(state, STEP) + STEP;
         z = (z ^ z >> 30) * UINT64_C(0xBF58476D1CE4E5B9);
         z = (z ^ z >> 27) * UINT64_C(0x94D049BB133111EB);
         z ^= z >> 31;
@@ -80,73 +82,87 @@ static void draw(_Atomic uint64_t *place, unsigned char *to, size_t count) {
     }
 }
 
-static ssize_t drawn_random(void *to, size_t count, unsigned flags) {
+static ssize_t own_getrandom(void *to, size_t count, unsigned flags) {
     if (!moment) return getrandom(to, count, flags);
     draw(&drawn, to, count);
     return (ssize_t)count;
 }
 
-static int drawn_entropy(void *to, size_t count) {
+static int own_getentropy(void *to, size_t count) {
     if (!moment) return getentropy(to, count);
     draw(&drawn, to, count);
     return 0;
 }
 
+/* The functions whose calls are counted. X is a macro that makes code for each. */
 /* clang-format off */
 #define WATCHED(X) \
     X(connect) X(bind) X(listen) X(accept) X(accept4) X(send) X(sendto) X(sendmsg) X(sendmmsg) X(recv) X(recvfrom) X(recvmsg) X(recvmmsg) \
     X(getaddrinfo) X(getnameinfo) X(gethostbyname) X(gethostbyname_r) X(getifaddrs) X(poll) X(ppoll) X(select) X(pselect) X(epoll_wait) \
     X(epoll_pwait) X(nanosleep) X(clock_nanosleep) X(usleep) X(sleep) X(sem_wait) X(sem_timedwait) X(sem_clockwait)
 /* clang-format on */
+
+/* Make a function's number, its name, and the row of a list with its replacement. */
 #define NUMBER(name) OF_##name,
 #define NAME(name) #name,
 #define OWN(name) {#name, (void *)own_##name},
-enum { WATCHED(NUMBER) COUNT, MOST = 64, MOST_LOADED = 4096 }; /* of libraries that are counted, and that are remembered */
+enum {
+    WATCHED(NUMBER) COUNT, /* the functions whose calls are counted, and their number */
+    MOST = 64              /* the most libraries whose calls are counted */
+};
 
-/* NOLINTBEGIN(cppcoreguidelines-avoid-non-const-global-variables): the counts of the whole process */
+/* The counts of the whole process. NOLINTBEGIN(cppcoreguidelines-avoid-non-const-global-variables) */
 static atomic_bool counting;
 static struct {
-    _Atomic(char *) base; /* of the library in memory */
-    const char *_Atomic name;
-    atomic_uint calls[COUNT];
+    _Atomic(char *) base;     /* the library's place in memory, or NULL behind the last one */
+    const char *_Atomic name; /* the library's file */
+    atomic_uint calls[COUNT]; /* by functions */
 } libraries[MOST];
-static struct {
-    ElfW(Addr) places[MOST_LOADED];
-    size_t count;
-    unsigned long long unloaded;
-} bound; /* libraries that have these functions */
 /* NOLINTEND(cppcoreguidelines-avoid-non-const-global-variables) */
 
-static void count(int function, void *caller) {
-    Dl_info found;
-    int before = errno;
-    if (dladdr(caller, &found))
-        for (size_t n = 0; n < MOST; n++) {
-            char *base = NULL;
-            if (atomic_compare_exchange_strong(&libraries[n].base, &base, (char *)found.dli_fbase)) libraries[n].name = found.dli_fname;
-            if (!base || base == (char *)found.dli_fbase) {
-                libraries[n].calls[function]++;
-                break;
-            }
+/* Counts a library's call of a function. A new library gets the first free place, unless there is none. */
+static void count_of_library(int function, const Dl_info *library) {
+    for (size_t n = 0; n < MOST; n++) {
+        char *base = NULL;
+        bool is_new = atomic_compare_exchange_strong(&libraries[n].base, &base, (char *)library->dli_fbase);
+        if (is_new) libraries[n].name = library->dli_fname;
+        if (is_new || base == (char *)library->dli_fbase) {
+            libraries[n].calls[function]++;
+            return;
         }
-    errno = before;
-}
-
-/* Whether a socket reaches beyond this process, as far as its family tells. */
-static bool is_real(int socket) {
-    int family = AF_UNIX, before = errno;
-    socklen_t size = sizeof family;
-    bool known = !getsockopt(socket, SOL_SOCKET, SO_DOMAIN, &family, &size);
-    errno = before;
-    return known && family != AF_UNIX;
-}
-
-#define CALL(name, is_one, result, declared, given)                              \
-    static result own_##name declared {                                          \
-        if (counting && (is_one)) count(OF_##name, __builtin_return_address(0)); \
-        return name given;                                                       \
     }
+}
+
+/* Counts a call of a function, by the address to which it returns. Leaves errno as it is. */
+static void count(int function, void *caller) {
+    Dl_info library;
+    int before = errno;
+    if (dladdr(caller, &library)) count_of_library(function, &library);
+    errno = before;
+}
+
+/* Whether a socket reaches the real network, by its family. Leaves errno as it is. */
+static bool is_real(int socket) {
+    int family = AF_UNIX;
+    int before = errno;
+    socklen_t size = sizeof family;
+    bool has_family = getsockopt(socket, SOL_SOCKET, SO_DOMAIN, &family, &size) == 0;
+    errno = before;
+    return has_family && family != AF_UNIX;
+}
+
+/* Defines `own_name`, which calls the C library's function with the same arguments: `declared` has their types, and `given` their names. If
+   the condition is true during a run, the call is counted. */
+#define CALL(name, is_counted, result, declared, given)                              \
+    static result own_##name declared {                                              \
+        if (counting && (is_counted)) count(OF_##name, __builtin_return_address(0)); \
+        return name given;                                                           \
+    }
+
+/* Defines a function whose first argument is the socket `s`. A call is counted if this reaches the real network. */
 #define OF_SOCKET(name, result, declared, given) CALL(name, is_real(s), result, declared, given)
+
+/* Defines a function that waits. A call in the run's thread is counted if the wait may last. */
 #define WAIT(name, is_long, declared, given) CALL(name, moment && (is_long), int, declared, given)
 
 CALL(connect, true, int, (int s, const struct sockaddr *to, socklen_t n), (s, to, n))
@@ -156,11 +172,11 @@ OF_SOCKET(accept, int, (int s, struct sockaddr *from, socklen_t *n), (s, from, n
 OF_SOCKET(accept4, int, (int s, struct sockaddr *from, socklen_t *n, int flags), (s, from, n, flags))
 OF_SOCKET(send, ssize_t, (int s, const void *data, size_t n, int flags), (s, data, n, flags))
 OF_SOCKET(sendto, ssize_t, (int s, const void *data, size_t n, int flags, const struct sockaddr *to, socklen_t m), (s, data, n, flags, to, m))
-OF_SOCKET(sendmsg, ssize_t, (int s, const struct msghdr *it, int flags), (s, it, flags))
+OF_SOCKET(sendmsg, ssize_t, (int s, const struct msghdr *message, int flags), (s, message, flags))
 OF_SOCKET(sendmmsg, int, (int s, struct mmsghdr *them, unsigned n, int flags), (s, them, n, flags))
 OF_SOCKET(recv, ssize_t, (int s, void *data, size_t n, int flags), (s, data, n, flags))
 OF_SOCKET(recvfrom, ssize_t, (int s, void *data, size_t n, int flags, struct sockaddr *from, socklen_t *m), (s, data, n, flags, from, m))
-OF_SOCKET(recvmsg, ssize_t, (int s, struct msghdr *it, int flags), (s, it, flags))
+OF_SOCKET(recvmsg, ssize_t, (int s, struct msghdr *message, int flags), (s, message, flags))
 OF_SOCKET(recvmmsg, int, (int s, struct mmsghdr *them, unsigned n, int flags, struct timespec *t), (s, them, n, flags, t))
 CALL(getaddrinfo, n, int, (const char *n, const char *s, const struct addrinfo *h, struct addrinfo **to), (n, s, h, to))
 CALL(getnameinfo, !(f & NI_NUMERICHOST), int, (const struct sockaddr *a, socklen_t n, char *h, socklen_t m, char *s, socklen_t o, int f),
@@ -183,95 +199,25 @@ WAIT(sem_wait, sem_trywait(it) || sem_post(it), (sem_t * it), (it))
 WAIT(sem_timedwait, true, (sem_t * it, const struct timespec *until), (it, until))
 WAIT(sem_clockwait, true, (sem_t * it, clockid_t clock, const struct timespec *until), (it, clock, until))
 
-static void *named(void *restrict library, const char *restrict name);
+static void *own_dlsym(void *restrict library, const char *restrict name);
 
-struct function {
-    const char *name;
-    void *own;
-};
 static const struct function OF_ALL[] = {
-    {"getrandom", (void *)drawn_random}, {"getentropy", (void *)drawn_entropy}, {"dlsym", (void *)named}, WATCHED(OWN){NULL, NULL}};
-static const struct function OF_OPENSSL[] = {{"clock_gettime", (void *)now_of}, {"gettimeofday", (void *)now_of_day}, {NULL, NULL}};
+    {"getrandom", (void *)own_getrandom}, {"getentropy", (void *)own_getentropy}, {"dlsym", (void *)own_dlsym}, WATCHED(OWN){NULL, NULL}};
+static const struct function OF_OPENSSL[] = {
+    {"clock_gettime", (void *)simulated_clock}, {"gettimeofday", (void *)simulated_time_of_day}, {NULL, NULL}};
 
-static void *own_of(const struct function *them, const char *name) {
-    while (them->name && strcmp(them->name, name) != 0) them++;
-    return them->own;
-}
-
-static void *named(void *restrict library, const char *restrict name) {
+/* Returns the function above if a look-up by name would find the C library's. */
+static void *own_dlsym(void *restrict library, const char *restrict name) {
     void *own = own_of(OF_ALL, name);
     bool is_of_c = own && dlsym(library, name) == dlsym(RTLD_DEFAULT, name);
     return is_of_c ? own : dlsym(library, name);
 }
 
-/* The tables of relocations of a library that is new: its entries for functions that have others here. The loader tells places as numbers.
-   NOLINTBEGIN(performance-no-int-to-ptr) */
-static int rebind(struct dl_phdr_info *it, size_t size, void *self) {
-    const ElfW(Phdr) *dynamic = NULL, *read_only = NULL;
-    const char *name = it->dlpi_name, *texts = NULL;
-    const ElfW(Sym) *symbols = NULL;
-    const ElfW(Rela) * tables[2] = {NULL, NULL};
-    size_t sizes[2] = {0, 0}, page = (size_t)sysconf(_SC_PAGESIZE);
-    bool has_openssl = strstr(name, "libcrypto") || strstr(name, "libssl") || strstr(name, "cryptography/hazmat");
-    (void)size;
-    if (bound.unloaded != it->dlpi_subs) bound.count = 0;
-    bound.unloaded = it->dlpi_subs;
-    for (size_t n = 0; n < bound.count; n++)
-        if (bound.places[n] == it->dlpi_addr) return 0;
-    if (bound.count < MOST_LOADED) bound.places[bound.count++] = it->dlpi_addr;
-    for (size_t n = 0; n < it->dlpi_phnum; n++) {
-        const ElfW(Phdr) *one = &it->dlpi_phdr[n];
-        char *begins = (char *)it->dlpi_addr + one->p_vaddr;
-        if (one->p_type == PT_LOAD && (char *)self >= begins && (char *)self < begins + one->p_memsz) return 0;
-        if (one->p_type == PT_DYNAMIC) dynamic = one;
-        if (one->p_type == PT_GNU_RELRO) read_only = one;
-    }
-    if (!dynamic || strstr(name, "linux-vdso") || strstr(name, "/ld-linux") || strstr(name, "/libc.so")) return 0;
-    for (const ElfW(Dyn) *one = (const void *)(it->dlpi_addr + dynamic->p_vaddr); one->d_tag != DT_NULL; one++) {
-        const void *place = (const void *)(one->d_un.d_ptr + (one->d_un.d_ptr < it->dlpi_addr ? it->dlpi_addr : 0)); /* musl has no base in it */
-        switch (one->d_tag) {
-        case DT_SYMTAB: symbols = place; break;
-        case DT_STRTAB: texts = place; break;
-        case DT_RELA: tables[0] = place; break;
-        case DT_RELASZ: sizes[0] = one->d_un.d_val; break;
-        case DT_JMPREL: tables[1] = place; break;
-        case DT_PLTRELSZ: sizes[1] = one->d_un.d_val; break;
-        default: break;
-        }
-    }
-    char *first = read_only ? (char *)((it->dlpi_addr + read_only->p_vaddr) & ~(page - 1)) : NULL;
-    char *behind = read_only ? (char *)((it->dlpi_addr + read_only->p_vaddr + read_only->p_memsz) & ~(page - 1)) : NULL;
-    bool is_open = false;
-    for (size_t table = 0; symbols && texts && table < 2; table++)
-        for (size_t n = 0; tables[table] && n < sizes[table] / sizeof(ElfW(Rela)); n++) {
-            const ElfW(Rela) *one = &tables[table][n];
-            const char *function = texts + symbols[ELF64_R_SYM(one->r_info)].st_name;
-            void **place = (void **)(it->dlpi_addr + one->r_offset), *own = own_of(OF_ALL, function);
-            if (!own && has_openssl) own = own_of(OF_OPENSSL, function);
-            switch (ELF64_R_TYPE(one->r_info)) {
-#if defined(__x86_64__)
-            case R_X86_64_JUMP_SLOT:
-            case R_X86_64_GLOB_DAT: break;
-#elif defined(__aarch64__)
-            case R_AARCH64_JUMP_SLOT:
-            case R_AARCH64_GLOB_DAT: break;
-#endif
-            default: own = NULL;
-            }
-            if (!own || *place == own) continue;
-            if ((char *)place >= first && (char *)place < behind && !is_open)
-                is_open = !mprotect(first, (size_t)(behind - first), PROT_READ | PROT_WRITE);
-            if (is_open || (char *)place < first || (char *)place >= behind) *place = own;
-        }
-    if (is_open) mprotect(first, (size_t)(behind - first), PROT_READ);
-    return 0;
-}
-/* NOLINTEND(performance-no-int-to-ptr) */
+/* Gives the functions above to all libraries that are loaded now. */
+void hinge_border(void) { rewrite_tables(OF_ALL, OF_OPENSSL); }
 
-/* Gives all libraries that are loaded now the functions of this one. */
-void hinge_border(void) { dl_iterate_phdr(rebind, (void *)hinge_border); }
-
-/* OpenSSL's random numbers during a run, from a seed. Its threads need no lock of Python for them, whose holder may wait for these threads. */
+/* Draws OpenSSL's random numbers during a run, from the seed of hinge_seed(). OpenSSL's threads need no lock of Python for this, whose
+   holder may wait for these threads. */
 int hinge_random(unsigned char *to, int count) {
     draw(&drawn_by_openssl, to, (size_t)count);
     return 1;
@@ -279,8 +225,8 @@ int hinge_random(unsigned char *to, int count) {
 
 void hinge_seed(uint64_t seed) { drawn_by_openssl = seed; }
 
-/* A run begins in this thread, or ends, where there is no place: the place of the ns since it began, the ns since 1970 at which it did, and the
-   seed of its random numbers. */
+/* Begins a run in this thread, or ends it if `place` is NULL. `place` has the ns since the run's beginning, and `epoch` is this beginning
+   in ns since 1970. The seed is for the run's random numbers. */
 void hinge_run(const int64_t *place, int64_t epoch, uint64_t seed) {
     moment = place;
     began = epoch;
@@ -288,7 +234,8 @@ void hinge_run(const int64_t *place, int64_t epoch, uint64_t seed) {
     counting = place != NULL;
 }
 
-/* The number of a library that called a function, how often, and the names of both; 0 behind the last one. The counts begin anew. */
+/* Returns how often a library has called a function since the last question, with the names of both: at `place`, of all pairs. Returns ~0
+   behind the last pair, from the first place without a library on. */
 unsigned hinge_called(size_t place, const char **library, const char **function) {
     static const char *const names[] = {WATCHED(NAME)};
     if (place >= (size_t)MOST * COUNT) return ~0U;

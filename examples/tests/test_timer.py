@@ -19,10 +19,7 @@ class Receiver(asyncio.DatagramProtocol):
 
 class Sender(asyncio.DatagramProtocol):
     def __init__(self, kind):
-        self.kind = kind
-        self.answers = {}
-        self.smooth = None
-        self.variation = 0
+        self.kind, self.answers, self.smooth, self.variation = kind, {}, None, 0
 
     def datagram_received(self, data, source):
         self.answers[data].set()
@@ -39,8 +36,7 @@ async def send(kind, count):
     loop, sent = asyncio.get_running_loop(), 0
     transport, sender = await loop.create_datagram_endpoint(lambda: Sender(kind), remote_addr=("10.0.0.2", 7))
     for message in (b"%d" % number for number in range(count)):
-        begun = loop.time()
-        answer = sender.answers.setdefault(message, asyncio.Event())
+        begun, answer = loop.time(), sender.answers.setdefault(message, asyncio.Event())
         while not answer.is_set():
             transport.sendto(message)
             sent += 1

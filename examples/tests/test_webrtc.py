@@ -30,8 +30,7 @@ async def offers(offer, answer, done):
 
 
 async def answers(offer, answer, done):
-    peer = aiortc.RTCPeerConnection(aiortc.RTCConfiguration(iceServers=[]))
-    got = []
+    peer, got = aiortc.RTCPeerConnection(aiortc.RTCConfiguration(iceServers=[])), []
 
     @peer.on("datachannel")
     def opened(channel):

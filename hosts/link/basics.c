@@ -18,18 +18,19 @@ bool take_number(const char **text, uint64_t *number) {
     errno = 0;
     *number = strtoull(*text, &end, 10);
     if (errno || !isdigit((unsigned char)**text) || (*end && *end != ' ')) return false;
-    *text = end + (*end == ' ');
+    *text = *end == ' ' ? end + 1 : end;
     return true;
 }
 
 bool take_int(const char **text, int least, int most, int *number) {
-    int sign = **text == '-' ? -1 : 1;
-    const char *digits = *text + (sign < 0);
+    bool is_negative = **text == '-';
+    const char *digits = is_negative ? *text + 1 : *text;
     uint64_t size;
-    bool is_int = take_number(&digits, &size) && size <= INT_MAX;
-    *number = is_int ? sign * (int)size : 0;
-    if (is_int) *text = digits;
-    return is_int && *number >= least && *number <= most;
+    *number = 0;
+    if (!take_number(&digits, &size) || size > INT_MAX) return false;
+    *number = is_negative ? -(int)size : (int)size;
+    *text = digits;
+    return *number >= least && *number <= most;
 }
 
 int number_of(const char *word) {
@@ -39,24 +40,25 @@ int number_of(const char *word) {
     return number;
 }
 
-void *grown(void *old, size_t bytes) {
-    void *made = realloc(old, bytes);
-    if (!made) fail("the link", "out of memory");
-    return made;
+void *reallocate(void *old, size_t bytes) {
+    void *memory = realloc(old, bytes);
+    if (!memory) fail("the link", "out of memory");
+    return memory;
 }
 
-void *zeroed(size_t bytes) {
-    void *made = calloc(1, bytes);
-    if (!made) fail("the link", "out of memory");
-    return made;
+void *allocate_zeros(size_t bytes) {
+    void *memory = calloc(1, bytes);
+    if (!memory) fail("the link", "out of memory");
+    return memory;
 }
 
 uint64_t now(struct clock *clock) {
-    struct timespec at;
-    clock_gettime(CLOCK_MONOTONIC, &at);
-    uint64_t ns = (uint64_t)at.tv_sec * SECOND + (uint64_t)at.tv_nsec;
-    clock->epoch = clock->epoch ? clock->epoch : ns;
-    return clock->last = ns > clock->epoch ? ns - clock->epoch : 0;
+    struct timespec time;
+    clock_gettime(CLOCK_MONOTONIC, &time);
+    uint64_t ns = (uint64_t)time.tv_sec * SECOND + (uint64_t)time.tv_nsec;
+    if (!clock->epoch) clock->epoch = ns;
+    clock->last = ns > clock->epoch ? ns - clock->epoch : 0;
+    return clock->last;
 }
 
 uint64_t present(struct clock *clock) { return clock->stands ? clock->last : now(clock); }

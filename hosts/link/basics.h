@@ -1,4 +1,4 @@
-/* What every part of hinge-link uses: the end in a fault, memory, and the clock. */
+/* Functions for all parts of hinge-link: the end by a fault, numbers in texts, memory, and the clock. */
 #pragma once
 #include <stdbool.h>
 #include <stddef.h>
@@ -8,37 +8,37 @@
 #define SECOND UINT64_C(1000000000) /* ns */
 #define MEGABYTE (UINT64_C(1) << 20)
 
-/* The statuses with which it ends, as `hinge run` passes them on. */
+/* The program's statuses after a wrong line and after another fault, which `hinge run` passes on. */
 enum { BAD_LINE = 3, REFUSED = 6 };
 
-/* Ends the program with a line on standard error. */
+/* Ends the program with a message and the status REFUSED. */
 _Noreturn void fail(const char *what, const char *why);
 
-/* Takes a number from the front of a text with the space behind it; false where no number of that range is there. */
+/* Take a number from the front of a text, with the space behind it. False if the text doesn't begin with a number in the range. */
 bool take_int(const char **text, int least, int most, int *number);
 bool take_number(const char **text, uint64_t *number);
 
-/* The number that a word of the command line is; ends the program where it is none. */
+/* Returns the number that a word of the command line is. Ends the program if the word is no number. */
 int number_of(const char *word);
 
-/* Memory of so many bytes, with what `old` held. */
-void *grown(void *old, size_t bytes);
+/* Returns memory of this size with the contents of `old`, which may be NULL. Ends the program if there is no memory. */
+void *reallocate(void *old, size_t bytes);
 
-/* Memory of so many bytes, all of them 0, which takes none of the system before it is used. */
-void *zeroed(size_t bytes);
+/* Returns memory of this size with zeros, which occupies no memory of the system before its use. */
+void *allocate_zeros(size_t bytes);
 
-/* Moments are ns since the epoch, a time of the system's monotonic clock. */
+/* The clock of moments, which are ns since the epoch. */
 struct clock {
-    uint64_t epoch; /* 0 until the first moment is asked, which then is the epoch */
-    uint64_t last;  /* the moment that `now` returned last */
-    bool stands;    /* whether time passes only while this program waits */
+    uint64_t epoch; /* a time of the system's monotonic clock, or 0 until the first reading */
+    uint64_t last;  /* the moment of the last reading */
+    bool stands;    /* whether time stands while this program doesn't wait, as in simulated time */
 };
 
-/* The moment, 0 before the epoch. Reads the clock, which is dear where it is a call of the system. */
+/* Reads the clock, perhaps by an expensive call of the system, and returns the moment, or 0 before the epoch. */
 uint64_t now(struct clock *clock);
 
-/* The moment of what happens within a turn: the last, where time stands, and else by the clock. */
+/* Returns the moment within a turn: the moment of the last reading if time stands, otherwise of a new one. */
 uint64_t present(struct clock *clock);
 
-/* The system's time of a moment. */
+/* Returns the system's time of a moment. */
 struct timespec time_of(const struct clock *clock, uint64_t moment);

@@ -7,30 +7,41 @@
 
 #include "host.h"
 
-enum { OUTAGE_PROTOCOL = 255 }; /* of the packet that nobody sent, as no IP packet has it */
+enum { OUTAGE_PROTOCOL = 255 }; /* the protocol of an outage's packet, which no IP packet has */
 
 struct change {
     uint64_t moment;
-    int pipe;        /* of an outage, which has no line */
-    uint16_t length; /* bytes of its packet */
-    char *line;
+    char *line;      /* the line to follow, or NULL for an outage */
+    int pipe;        /* the pipe of an outage */
+    uint16_t length; /* bytes of an outage's packet */
 };
 
 struct changes {
-    struct change *list;
-    size_t count, done;
+    struct change *list; /* in the order of their moments */
+    size_t count;        /* the number of changes */
+    size_t done;         /* the number of changes at the front that have been made */
 };
 
 struct changes *new_changes(void) {
-    return zeroed(sizeof(struct changes));
+    return allocate_zeros(sizeof(struct changes));
 }
 
-/* Puts a change behind those of its moment and of earlier ones. */
+/* Doubles the room of the list if it is full. The room is always a power of two. */
+static void make_room(struct changes *changes) {
+    size_t count = changes->count;
+    bool is_full = (count & (count - 1)) == 0;
+    if (is_full) changes->list = reallocate(changes->list, (count ? 2 * count : 1) * sizeof *changes->list);
+}
+
+/* Inserts a change behind the changes at its moment and before. */
 static void insert(struct changes *changes, struct change change) {
-    size_t at = changes->count++;
-    if ((at & (at - 1)) == 0) changes->list = grown(changes->list, (at ? 2 * at : 1) * sizeof *changes->list); /* a power of two: full */
-    for (; at > changes->done && changes->list[at - 1].moment > change.moment; at--) changes->list[at] = changes->list[at - 1];
-    changes->list[at] = change;
+    make_room(changes);
+    size_t place = changes->count++;
+    while (place > changes->done && changes->list[place - 1].moment > change.moment) {
+        changes->list[place] = changes->list[place - 1];
+        place--;
+    }
+    changes->list[place] = change;
 }
 
 void insert_line(struct changes *changes, uint64_t moment, const char *line) {
@@ -43,10 +54,14 @@ void insert_outage(struct changes *changes, uint64_t moment, int pipe, uint16_t 
     insert(changes, (struct change){.moment = moment, .pipe = pipe, .length = length});
 }
 
-uint64_t next_change(const struct changes *changes) { return changes->done < changes->count ? changes->list[changes->done].moment : DN_NEVER; }
+uint64_t next_change(const struct changes *changes) {
+    if (changes->done == changes->count) return DN_NEVER;
+    return changes->list[changes->done].moment;
+}
 
-/* An outage is a rate at which the longest packet takes its length. Where no packet waits for the pipe, one that nobody sent is
-   submitted with that length, so that the outage begins now and not with what comes next, and lets no small packet by. */
+/* Begins an outage: at the pipe's rate, the transmission of the longest packet lasts as long as the outage. If no packet waits for the
+   pipe, a packet of this length that nobody sent is submitted. Otherwise the outage would begin with the next packet, and end early behind
+   a small one. */
 static void begin_outage(struct host *host, const struct change *change) {
     struct dn_packet packet = {.moment = change->moment, .kind = DN_PIPE, .number = (uint16_t)change->pipe, .length = change->length};
     struct dn_fate fate;
@@ -54,10 +69,13 @@ static void begin_outage(struct host *host, const struct change *change) {
     packet.word = WORD_OF_NONE;
     if (has_waiting(host->links, change->pipe)) return;
     submit_paced(host->pacing, &packet, &fate);
-    if (fate.outcome == DN_QUEUED) hold(host->held, &(struct packet){.number = fate.packet, .way = change->pipe - 1}, NULL, 0);
+    if (fate.outcome != DN_QUEUED) return;
+    struct packet held = {.number = fate.packet, .way = change->pipe - 1};
+    hold(host->held, &held, NULL, 0);
 }
 
-static void make(struct host *host, const struct change *change) {
+/* Makes a change. A line that is refused is reported on standard error. */
+static void apply_change(struct host *host, const struct change *change) {
     catch_up(host->pacing, change->moment);
     if (!change->line) {
         begin_outage(host, change);
@@ -70,5 +88,5 @@ static void make(struct host *host, const struct change *change) {
 
 void make_changes(struct host *host, uint64_t moment) {
     struct changes *changes = host->changes;
-    while (next_change(changes) <= moment) make(host, &changes->list[changes->done++]);
+    while (next_change(changes) <= moment) apply_change(host, &changes->list[changes->done++]);
 }

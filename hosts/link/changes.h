@@ -1,4 +1,4 @@
-/* What happens to the links while packets pass: lines of the timeline, and the beginnings of outages. */
+/* Changes of the links while packets pass: lines at moments, and the beginnings of outages. */
 #pragma once
 #include <stdint.h>
 
@@ -6,15 +6,15 @@ struct host;
 
 struct changes *new_changes(void);
 
-/* A line that is followed at a moment, after the other changes of that moment. */
+/* Adds a line that is followed at a moment, behind the changes of this moment that were added before. */
 void insert_line(struct changes *changes, uint64_t moment, const char *line);
 
-/* An outage of the pipe of a way that begins at a moment, with the length of the longest packet; a line before it has lowered the rate. */
+/* Adds the beginning of an outage of a way's pipe, whose rate a line has lowered before. `length` is the length of the longest packet. */
 void insert_outage(struct changes *changes, uint64_t moment, int pipe, uint16_t length);
 
-/* The moment of the next change, or DN_NEVER. */
+/* Returns the moment of the next change, or DN_NEVER. */
 uint64_t next_change(const struct changes *changes);
 
-/* Makes the changes that are due at a moment. Whatever tells the links a moment calls this first: time goes on while packets are read and
-   sent, and behind a later moment no change could be made at its own. */
+/* Makes the changes that are due at a moment. Call this before each call of the links with a moment: time passes while packets are received
+   and sent, and behind a later moment a change would come too late. */
 void make_changes(struct host *host, uint64_t moment);

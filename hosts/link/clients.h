@@ -1,4 +1,4 @@
-/* The clients of a UDP path, each with a socket of its own towards the server. One that was quiet for a minute is let go. */
+/* The clients of a UDP path. Each has a socket of its own to the server, which is closed after a minute without datagrams. */
 #pragma once
 #include <stdint.h>
 
@@ -6,36 +6,41 @@
 #include "page.h"
 
 struct client {
-    union end end;
-    int socket;
-    uint64_t active; /* the moment at which something last passed */
-    struct client *in_bucket, *older, *newer;
+    union end end;            /* its address and port */
+    int socket;               /* its socket to the server */
+    uint64_t active;          /* the moment at which a datagram last passed */
+    struct client *in_bucket; /* the next client in its bucket */
+    struct client *older;     /* the client that was active before it */
+    struct client *newer;     /* the client that was active after it */
 };
 
-/* Those of a server, of whom there are none yet: as many as the system lets this program have sockets. What the system drops is counted
-   on the way back from the server. */
+/* Returns the clients of a server, of which there are none yet, and at most as many as the system allows sockets. `back` counts the
+   datagrams that the system drops on the way back from the server. */
 struct clients *new_clients(const union end *server, struct way *back);
 
-/* The descriptor on which the server's datagrams can be waited for. */
+/* Returns a descriptor that can be read when datagrams of the server have come for any client. */
 int clients_descriptor(const struct clients *clients);
 
-/* The client of an end, or NULL. */
-struct client *known_client(const struct clients *clients, const union end *end);
+/* Returns the client of an end, or NULL. */
+struct client *find_client(const struct clients *clients, const union end *end);
 
-/* The client of an end, which is made where it is new; NULL where there can be no more. */
-struct client *client_of(struct clients *clients, const union end *end, uint64_t moment);
+/* Returns the client of an end, which may be a new one. Returns NULL if there can't be another client. */
+struct client *find_or_add_client(struct clients *clients, const union end *end, uint64_t moment);
 
-/* A client for which the server's datagrams have come, another one at each call, or NULL. */
-struct client *ready_client(struct clients *clients);
+/* Returns a client for which datagrams of the server have come, at each call another one, or NULL behind the last. */
+struct client *next_ready_client(struct clients *clients);
 
+/* Notes that a client's datagram passes at a moment. */
 void note_active(struct clients *clients, struct client *client, uint64_t moment);
-void let_go_of_quiet_clients(struct clients *clients, uint64_t moment);
 
-/* The packets that the system dropped at a socket. */
+/* Removes the clients that were quiet for a minute. */
+void remove_quiet_clients(struct clients *clients, uint64_t moment);
+
+/* Returns the number of packets that the system dropped at a socket. */
 uint64_t dropped_at(int socket);
 
-/* Counts what the system dropped at the sockets of all clients. */
+/* Counts the packets that the system dropped at the sockets of all clients. */
 void count_dropped_of_clients(const struct clients *clients);
 
-/* Gives a socket the room that unread.h reckons with, as far as the system lets it. */
+/* Gives a socket the buffer that unread.h assumes, as far as the system allows it. */
 void give_room(int socket);

@@ -1,16 +1,16 @@
-/* Lines that come while packets pass, from a socket that keeps messages whole. Each is answered with the moment, with why it is refused
-   where it is, and on a second line with the configuration line that the pipe it is about has now:
+/* Messages while packets pass, from a socket that keeps them whole. The answer has the moment, behind it the reason of a refusal, and on a
+   second line the configuration line that the message's pipe then has:
 
-     line LINE      a line of cuts.h or of the configuration, followed at once
-     at NS LINE     one that is followed so many ns later
+     line LINE      follows a line of cuts.h or of the configuration at once
+     at NS LINE     follows a line NS later
      outage NS cut PIPE N
-                    a cut is followed at once, and so many ns later its end; a third line has what the pipe has behind it
-     acted HOST     when the host's next act was done, and whether it met nothing: one answer for each act (acts.h)
-     main           the main command begins now, and with it what the plan says behind `main`
-     moment         nothing but the moment */
+                    begins a cut at once and ends it NS later; a third line has the pipe's configuration line behind the cut
+     acted HOST     asks when the host's next act (acts.h) was done, and whether it met nothing; each act is answered once
+     main           begins the main command now, and reads the lines of the plan that waited for it
+     moment         asks for the moment alone */
 #pragma once
 
 struct host;
 
-/* Obeys what has come. */
+/* Obeys and answers the messages that have come. */
 void take_control(struct host *host);

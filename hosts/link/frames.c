@@ -5,10 +5,10 @@
 enum { TYPE = 2, TAG = 4 }; /* bytes */
 enum { OF_IPV4 = 0x0800, OF_IPV6 = 0x86dd, OF_TAG = 0x8100, OF_OUTER_TAG = 0x88a8 };
 
-/* Where the type is, behind the tags that there are. */
+/* Returns the place of the type, behind all tags. */
 static size_t place_of_type(const unsigned char *frame, size_t len) {
     size_t at = SHORTEST_FRAME - TYPE;
-    while (at + TAG + TYPE <= len && (two(frame + at) == OF_TAG || two(frame + at) == OF_OUTER_TAG)) at += TAG;
+    while (at + TAG + TYPE <= len && (u16_at(frame + at) == OF_TAG || u16_at(frame + at) == OF_OUTER_TAG)) at += TAG;
     return at;
 }
 
@@ -19,6 +19,7 @@ static uint64_t eui64(const unsigned char mac[MAC]) {
     return number;
 }
 
+/* Returns the IPv6 address of an interface with this address. */
 static struct address address_of(const unsigned char mac[MAC]) { return (struct address){UINT64_C(0xfe80) << 48, eui64(mac)}; }
 
 static uint32_t stand_in_of(struct strangers *strangers, struct address address) {
@@ -39,7 +40,7 @@ bool dissect_frame(struct strangers *strangers, const unsigned char *frame, size
                    struct headers *headers) {
     if (len < SHORTEST_FRAME) return false;
     size_t at = place_of_type(frame, len);
-    unsigned type = two(frame + at);
+    unsigned type = u16_at(frame + at);
     *payload = (struct payload){.bytes = frame + at + TYPE, .len = len - at - TYPE};
     payload->is_ip = is_ip(payload, type) && dissect(strangers, payload->bytes, payload->len, packet, headers);
     if (payload->is_ip) return true;

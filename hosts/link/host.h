@@ -1,4 +1,4 @@
-/* All that hinge-link keeps, in parts that main.c makes. A function gets the part that it is about, or the host where it needs several. */
+/* The whole state of hinge-link, in parts. A function gets the part that it is about, or the host if it needs several parts. */
 #pragma once
 #include "acts.h"
 #include "basics.h"
@@ -38,9 +38,9 @@ struct host {
     struct unread *unread;
     struct rules rules;
     struct plan plan;
-    int control;            /* a descriptor for lines that come while packets pass, or -1 */
-    bool contents_are_told; /* whether the transcript tells by what each packet is known again on another link */
+    int control;           /* a descriptor from which messages come while packets pass (control.h), or -1 */
+    bool remarks_contents; /* whether the transcript remarks each packet's content, by which audits recognize the packet on another link */
 };
 
-/* Makes all parts that the plan is about, for so many ways. */
+/* Makes all parts that the plan (the text that tells hinge-link what to emulate) is about, for `ways` ways. */
 void make_parts(struct host *host, int ways);

@@ -10,19 +10,30 @@
 
 #include "basics.h"
 
+/* What a configuration line is about. */
+struct target {
+    int kind;     /* DN_PIPE or DN_QUEUE */
+    int number;   /* the number of the pipe or queue */
+    bool deletes; /* whether the line deletes it */
+};
+
+/* The configuration line that a pipe or a queue has. */
 struct held_line {
-    int kind, number;
-    char *text;
+    int kind;   /* DN_PIPE or DN_QUEUE */
+    int number; /* the number of the pipe or queue */
+    char *text; /* NULL after its deletion */
 };
 
 struct links {
     struct transcript *transcript;
-    struct dn_handle shaper, trial; /* the second has all lines of the plan, so that what is wrong is told before the start */
-    struct held_line *lines;        /* that hold, in the order in which their pipes and queues were first configured */
-    size_t line_count;
-    struct dn_delivery *deliveries; /* room for a collect */
-    uint64_t delivery_room;
-    char wrong[DN_REASON_ROOM + 1], canonical[400]; /* the last answers of these functions; the longest entry of a line has some 220 */
+    struct dn_handle shaper;        /* the emulated links */
+    struct dn_handle trial;         /* a shaper for wrong_with(), which tries the plan's lines before the start */
+    struct held_line *lines;        /* in the order in which their pipes and queues were first configured */
+    size_t line_count;              /* the number of lines */
+    struct dn_delivery *deliveries; /* the packets of the last collect */
+    uint64_t delivery_room;         /* the number of packets for which there is room */
+    char wrong[DN_REASON_ROOM + 1]; /* the last result of wrong_by() */
+    char canonical[400];            /* the last result of canonical_line(); the longest has some 220 bytes */
 };
 
 static void open_new(struct dn_handle *handle) {
@@ -32,43 +43,63 @@ static void open_new(struct dn_handle *handle) {
 }
 
 struct links *open_links(struct transcript *transcript) {
-    struct links *links = zeroed(sizeof *links);
+    struct links *links = allocate_zeros(sizeof *links);
     links->transcript = transcript;
-    links->deliveries = grown(NULL, (links->delivery_room = 1024) * sizeof *links->deliveries);
+    links->delivery_room = 1024;
+    links->deliveries = reallocate(NULL, links->delivery_room * sizeof *links->deliveries);
     open_new(&links->shaper);
     open_new(&links->trial);
     return links;
 }
 
-/* What a line that was obeyed concerns: `pipe 1 config ..`, `queue delete 2` or `queue 2 delete`, with `ipfw` before it or without. */
-static bool target_of(const char *line, int *kind, int *number) {
+/* Reads the target of a line that was obeyed: `pipe 1 config ..`, `queue delete 2` or `queue 2 delete`, perhaps with `ipfw` before. */
+static struct target target_of(const char *line) {
     char words[4][8] = {"", "", "", ""};
     sscanf(line, "%7s %7s %7s %7s", words[0], words[1], words[2], words[3]);
-    int first = strcmp(words[0], "ipfw") == 0;
-    bool number_behind = strcmp(words[first + 1], "delete") == 0;
-    *kind = strcmp(words[first], "queue") == 0 ? DN_QUEUE : DN_PIPE;
-    *number = (int)strtol(words[first + 1 + number_behind], NULL, 10);
-    return number_behind || strcmp(words[first + 2], "delete") == 0;
+    int first = strcmp(words[0], "ipfw") == 0 ? 1 : 0;
+    bool has_delete_first = strcmp(words[first + 1], "delete") == 0;
+    const char *number = words[has_delete_first ? first + 2 : first + 1];
+    return (struct target){
+        .kind = strcmp(words[first], "queue") == 0 ? DN_QUEUE : DN_PIPE,
+        .number = (int)strtol(number, NULL, 10),
+        .deletes = has_delete_first || strcmp(words[first + 2], "delete") == 0,
+    };
 }
 
-static void note_line(struct links *links, const char *line, int kind, int number, bool deletes) {
-    size_t at = 0;
-    while (at < links->line_count && (links->lines[at].kind != kind || links->lines[at].number != number)) at++;
-    if (at < links->line_count) free(links->lines[at].text);
-    else links->lines = grown(links->lines, ++links->line_count * sizeof *links->lines);
-    char *text = deletes ? NULL : strdup(line);
-    if (!deletes && !text) fail("the links", "out of memory");
-    links->lines[at] = (struct held_line){kind, number, text};
+/* Returns the held line of a pipe or queue, which may be a new one without a text. */
+static struct held_line *find_or_add_line(struct links *links, const struct target *target) {
+    size_t place = 0;
+    while (place < links->line_count && (links->lines[place].kind != target->kind || links->lines[place].number != target->number)) place++;
+    if (place == links->line_count) {
+        links->line_count++;
+        links->lines = reallocate(links->lines, links->line_count * sizeof *links->lines);
+        links->lines[place] = (struct held_line){.kind = target->kind, .number = target->number};
+    }
+    return &links->lines[place];
 }
 
-/* What is wrong with a line by the library's answer, or NULL: the fault of a word, or a refusal as one word, like `no-such-pipe` in a transcript. */
+/* Keeps a line that was obeyed, or forgets the line of what it deleted. */
+static void note_line(struct links *links, const char *line) {
+    struct target target = target_of(line);
+    struct held_line *held = find_or_add_line(links, &target);
+    free(held->text);
+    held->text = NULL;
+    if (target.deletes) return;
+    held->text = strdup(line);
+    if (!held->text) fail("the links", "out of memory");
+}
+
+/* Returns what is wrong with a line by the library's status, or NULL: a text about a wrong word, or a refusal as in transcripts, in one
+   word such as `no-such-pipe`. */
 static const char *wrong_by(struct links *links, uint32_t status, const struct dn_fault *fault) {
+    uint64_t length = 0;
     if (status == DN_OK) return NULL;
     if (status != DN_LINE && status > DN_NO_SUCH_QUEUE) fail("the links", "out of memory");
-    uint64_t length = 0;
     dn_reason(status, fault, (uint8_t *)links->wrong, DN_REASON_ROOM, &length);
     links->wrong[length] = 0;
-    for (char *at = links->wrong; status != DN_LINE && (at = strchr(at, ' '));) *at = '-';
+    if (status == DN_LINE) return links->wrong;
+    for (char *letter = links->wrong; *letter; letter++)
+        if (*letter == ' ') *letter = '-';
     return links->wrong;
 }
 
@@ -82,7 +113,7 @@ const char *wrong_with(struct links *links, const char *line) {
     return wrong_by(links, status, &fault);
 }
 
-const char *canonical(struct links *links, const char *line) {
+const char *canonical_line(struct links *links, const char *line) {
     static const char front[] = "c,0,configure,";
     char *text = links->canonical;
     struct dn_fault fault;
@@ -94,8 +125,8 @@ const char *canonical(struct links *links, const char *line) {
     return text + strlen(front);
 }
 
-/* The links get a line, which is kept unless it is none; NULL, or what is wrong with it. */
-static const char *configured(struct links *links, const char *line) {
+/* Gives the links a line, which the transcript keeps unless a word is wrong. Returns what is wrong with the line, or NULL. */
+static const char *configure_links(struct links *links, const char *line) {
     struct dn_fault fault;
     struct transcript *transcript = links->transcript;
     uint32_t status = configure(&links->shaper, line, &fault);
@@ -105,10 +136,8 @@ static const char *configured(struct links *links, const char *line) {
 }
 
 const char *obey(struct links *links, const char *line) {
-    const char *wrong = configured(links, line);
-    int kind, number;
-    bool deletes = target_of(line, &kind, &number);
-    if (!wrong) note_line(links, line, kind, number, deletes);
+    const char *wrong = configure_links(links, line);
+    if (!wrong) note_line(links, line);
     return wrong;
 }
 
@@ -123,23 +152,27 @@ void submit(struct links *links, const struct dn_packet *packet, struct dn_fate 
     keep_submit(links->transcript, packet, fate);
 }
 
-static uint64_t collected(struct links *links, uint64_t moment, const struct dn_delivery **list) {
+/* Collects the packets that are due at a moment, with room for all of them, and returns their number. */
+static uint64_t collect_all(struct links *links, uint64_t moment, const struct dn_delivery **list) {
     uint64_t count;
-    uint32_t status;
-    while ((status = dn_collect(&links->shaper, moment, links->deliveries, links->delivery_room, &count)) == DN_ROOM)
-        links->deliveries = grown(links->deliveries, (links->delivery_room = count + count / 2) * sizeof *links->deliveries);
+    uint32_t status = dn_collect(&links->shaper, moment, links->deliveries, links->delivery_room, &count);
+    while (status == DN_ROOM) {
+        links->delivery_room = count + count / 2;
+        links->deliveries = reallocate(links->deliveries, links->delivery_room * sizeof *links->deliveries);
+        status = dn_collect(&links->shaper, moment, links->deliveries, links->delivery_room, &count);
+    }
     if (status != DN_OK) fail("the links", "out of memory");
     *list = links->deliveries;
     return count;
 }
 
 uint64_t collect(struct links *links, uint64_t moment, const struct dn_delivery **list) {
-    uint64_t count = collected(links, moment, list);
+    uint64_t count = collect_all(links, moment, list);
     keep_collect(links->transcript, moment, *list, count);
     return count;
 }
 
-uint64_t collect_rest(struct links *links, const struct dn_delivery **list) { return collected(links, DN_LAST_MOMENT, list); }
+uint64_t collect_rest(struct links *links, const struct dn_delivery **list) { return collect_all(links, DN_LAST_MOMENT, list); }
 
 uint64_t wake(struct links *links) {
     uint64_t moment;
@@ -147,20 +180,37 @@ uint64_t wake(struct links *links) {
     return moment;
 }
 
+/* Returns the flows of all pipes and queues, which the caller frees, and their number. */
+static struct dn_flow *show_flows(struct links *links, uint64_t *count) {
+    uint64_t room = 1024;
+    struct dn_flow *flows = reallocate(NULL, room * sizeof *flows);
+    while (dn_show(&links->shaper, flows, room, count) == DN_ROOM) {
+        room = *count;
+        flows = reallocate(flows, room * sizeof *flows);
+    }
+    return flows;
+}
+
 bool has_waiting(struct links *links, int pipe) {
-    uint64_t room = 1024, count, waiting = 0;
-    struct dn_flow *flows = grown(NULL, room * sizeof *flows);
-    while (dn_show(&links->shaper, flows, room, &count) == DN_ROOM) flows = grown(flows, (room = count) * sizeof *flows);
-    for (uint64_t i = 0; i < count; i++) waiting += flows[i].pipe == pipe ? flows[i].queued : 0;
+    uint64_t count;
+    struct dn_flow *flows = show_flows(links, &count);
+    uint64_t waiting = 0;
+    for (uint64_t i = 0; i < count; i++)
+        if (flows[i].pipe == pipe) waiting += flows[i].queued;
     free(flows);
     return waiting > 0;
+}
+
+/* Gives new links the lines of a kind. */
+static void configure_again(struct links *links, int kind) {
+    for (size_t i = 0; i < links->line_count; i++)
+        if (links->lines[i].kind == kind && links->lines[i].text) configure_links(links, links->lines[i].text);
 }
 
 void begin_next_part(struct links *links) {
     next_part(links->transcript);
     dn_close(&links->shaper);
     open_new(&links->shaper);
-    for (int kind = DN_PIPE; kind <= DN_QUEUE; kind++) /* a queue needs its pipe */
-        for (size_t i = 0; i < links->line_count; i++)
-            if (links->lines[i].kind == kind && links->lines[i].text) configured(links, links->lines[i].text);
+    configure_again(links, DN_PIPE); /* a queue needs its pipe */
+    configure_again(links, DN_QUEUE);
 }

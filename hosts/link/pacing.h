@@ -1,32 +1,32 @@
-/* Pipes whose packets leave at moments of a trace, and pipes with outages: a packet keeps the rate at which it began, so the rate of the
-   next one that begins is set by its own length. Such a pipe is one queue, without masks. */
+/* Pipes whose packets leave at the moments of a trace, and pipes with outages. A packet keeps the rate at which its transmission began, so
+   such a pipe's rate is set before each packet, for this packet's length. The pipe is a single queue, without masks. */
 #pragma once
 #include <hingetulip.h>
 #include <stdbool.h>
 #include <stddef.h>
 #include <stdint.h>
 
-enum { SLOT = 1500 }; /* bytes that may leave at each moment of a trace; what nobody uses is lost */
+enum { SLOT = 1500 }; /* bytes that may leave at each moment of a trace; bytes that no packet uses are lost */
 
 struct links;
 
-/* Paces none yet of the pipes of the links up to the number `most`. */
+/* Returns a pacing of the links' pipes up to the number `most`, which paces none of them yet. */
 struct pacing *new_pacing(struct links *links, int most);
 
-/* The moments of a trace, in ms, ascending: the last is its period, after which it begins anew. */
+/* Gives a pipe the moments of a trace, in ascending ms. The last is the trace's period, after which the trace starts over. */
 void add_slots(struct pacing *pacing, int pipe, const uint32_t *moments, size_t count);
 
-/* Has a pipe be paced from the beginning, since outages of it come later. */
+/* Paces a pipe from now on, since it gets its outages later. */
 void pace(struct pacing *pacing, int pipe);
 
-/* An outage: what would begin in it leaves at its end. */
+/* Adds an outage to a pipe: a packet that would begin between these moments leaves at the second. */
 void add_hold(struct pacing *pacing, int pipe, uint64_t from, uint64_t to);
 
-/* A line of the configuration was obeyed. */
+/* Notes that the links have obeyed a configuration line. */
 void note_configured(struct pacing *pacing, const char *line);
 
-/* Lets begin what begins up to a moment, each packet with its own rate. To be called before the links get a call of that moment. */
+/* Begins all transmissions that are due up to a moment, each at its packet's rate. Call it before the links get a call of this moment. */
 void catch_up(struct pacing *pacing, uint64_t moment);
 
-/* Submits a packet at a moment up to which all has begun. */
+/* Submits a packet to the links, behind catch_up() to its moment. */
 void submit_paced(struct pacing *pacing, const struct dn_packet *packet, struct dn_fate *fate);

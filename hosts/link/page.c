@@ -7,8 +7,8 @@
 #include "basics.h"
 
 struct page *open_page(int descriptor, int ways) {
-    struct page *page =
-        mmap(NULL, sizeof *page + (size_t)ways * sizeof *page->ways + MET * sizeof(uint64_t), PROT_READ | PROT_WRITE, MAP_SHARED, descriptor, 0);
+    size_t size = sizeof(struct page) + (size_t)ways * sizeof(struct way) + MET * sizeof(uint64_t);
+    struct page *page = mmap(NULL, size, PROT_READ | PROT_WRITE, MAP_SHARED, descriptor, 0);
     if (page == MAP_FAILED) fail("the page of counts", strerror(errno));
     return page;
 }
@@ -17,7 +17,11 @@ uint64_t *met_of(struct page *page, int ways) { return (uint64_t *)(page->ways +
 
 void count_time(uint64_t bins[BINS], uint64_t ns, uint64_t count) {
     uint64_t us = ns / 1000;
+    uint64_t bin = us;
     if (us > UINT32_MAX) us = UINT32_MAX;
-    unsigned power = us < 16 ? 0 : 59u - (unsigned)__builtin_clzll(us);
-    bins[us < 16 ? us : (power << 4) + 16 + (us >> power & 15)] += count;
+    if (us >= 16) {
+        unsigned power = 59u - (unsigned)__builtin_clzll(us); /* 0 from 16 us on, 1 from 32 us on, and so on */
+        bin = (power << 4) + 16 + (us >> power & 15);
+    }
+    bins[bin] += count;
 }

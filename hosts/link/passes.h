@@ -1,7 +1,7 @@
-/* What a link of dummynet doesn't do, built of what it does: a duplicate is a second submit of a packet, and jitter a second pass, through one
-   of several pipes that have a delay each and nothing else. Each is a call like any other, which the audit judges. Faults choose packets of a
-   way by their numbers from 1: those that are lost, that come twice, or that are late, by a pipe for their second pass. What leaves its last
-   pipe may have one bit flipped, which no call tells: a remark does. */
+/* Effects that a link of dummynet lacks, made of calls that it has. A duplicate is a second submit of a packet, and jitter is a second pass
+   through one of several pipes that have a delay and nothing else. The audit judges these calls as all others. A fault chooses a packet by
+   its number, counted from 1, among the packets of a way (one direction of a link): it is lost, or comes twice, or is late, by the delay of
+   its second pass. A packet that leaves its last pipe may have a flipped bit, which no call reports, but a remark. */
 #pragma once
 #include <stdbool.h>
 #include <stddef.h>
@@ -9,35 +9,35 @@
 
 enum fault { IS_LOST, IS_TWICE, IS_LATE, FAULTS };
 
-/* Those of so many ways, by their numbers. */
+/* Returns the passes of `ways` ways, an array by their numbers, without any effect. */
 struct passes *new_passes(int ways);
 
-/* What has left its pipe on a way goes through one of so many pipes from this number on, drawn by a seed. */
+/* Gives a way `count` pipes of a second pass, from the number `first` on. The seed draws a pipe for each packet. */
 void set_jitter(struct passes *passes, int way, int first, int count, uint64_t seed);
 
-/* The chance, of 2^31, that a packet of a way enters it twice. */
+/* Sets the chance, of 2^31, that a packet of a way enters it twice. */
 void set_copies(struct passes *passes, int way, uint32_t chance, uint64_t seed);
 
-/* The chance, of 2^31, that a packet leaves a way with a flipped bit. */
+/* Sets the chance, of 2^31, that a packet leaves a way with a flipped bit. */
 void set_corruption(struct passes *passes, int way, uint32_t chance, uint64_t seed);
 
-/* Adds a packet of a way to those of a fault, with a number above 0: of IS_LATE the pipe. The packets ascend. */
+/* Adds a fault of a packet, whose number is above the numbers before. The value is above 0: for IS_LATE the pipe of the second pass. */
 void add_fault(struct passes *passes, int way, enum fault fault, uint64_t packet, int value);
 
 /* Counts a packet that comes on a way. */
 void count_packet(struct passes *passes, int way);
 
-/* What was added for the packet that came last on a way, or 0 where it has no such fault. */
+/* Returns the value of a fault of the packet that came last on a way, or 0 without such a fault. */
 int fault_of(struct passes *passes, int way, enum fault fault);
 
-/* The pipe of the second pass of a way's next packet, or 0 where it has none. */
-int second_pipe(struct passes *passes, int way);
+/* Draws the pipe of the second pass of a way's next packet; 0 if the way has no such pipes. */
+int draw_second_pipe(struct passes *passes, int way);
 
-/* Whether a way's next packet enters it twice. */
-bool is_copied(struct passes *passes, int way);
+/* Draws whether a way's next packet enters it twice. */
+bool draws_copy(struct passes *passes, int way);
 
-/* Whether a bit of the next packet that leaves a way is flipped. */
-bool is_corrupted(struct passes *passes, int way);
+/* Draws whether the next packet that leaves a way has a flipped bit. */
+bool draws_corruption(struct passes *passes, int way);
 
-/* Which of so many bits is flipped of the packet that left a way last. */
+/* Returns which of `bits` bits is flipped in the packet that left a way last. */
 size_t flipped_bit(const struct passes *passes, int way, size_t bits);

@@ -12,8 +12,9 @@
 
 #include "host.h"
 
-enum { PRIORITY = 10, MOST_PIPE = 65535 }; /* of the scheduler's first-in-first-out class; a pipe's greatest number */
+enum { PRIORITY = 10 }; /* of the scheduler's first-in-first-out class */
 
+/* Ends the program because of a wrong line. */
 _Noreturn static void refuse(const char *line, const char *wrong) {
     fprintf(stderr, "hinge: %s: %s\n", line, wrong);
     exit(BAD_LINE);
@@ -24,7 +25,7 @@ static void refuse_wrong(struct host *host, const char *line) {
     if (wrong) refuse(line, wrong);
 }
 
-/* transcript BYTES FILE: at the front, so that it has all lines. */
+/* Reads `transcript BYTES FILE`, a transcript whose parts should have at most BYTES. It is the first line, so that the file has all others. */
 static bool read_transcript(struct host *host, const char *rest) {
     uint64_t most;
     if (!take_number(&rest, &most)) return false;
@@ -32,7 +33,7 @@ static bool read_transcript(struct host *host, const char *rest) {
     return true;
 }
 
-/* line LINE: a configuration line of the beginning. */
+/* Reads `line LINE`, a configuration line from the beginning on. */
 static bool read_line(struct host *host, const char *rest) {
     const char *wrong = wrong_with(host->links, rest);
     if (wrong) refuse(rest, wrong);
@@ -40,7 +41,7 @@ static bool read_line(struct host *host, const char *rest) {
     return true;
 }
 
-/* at NS LINE: a configuration line at a moment. */
+/* Reads `at NS LINE`, a line that is followed at a moment. A line behind `main` was tried when it came. */
 static bool read_change(struct host *host, const char *rest) {
     uint64_t moment;
     if (!take_number(&rest, &moment)) return false;
@@ -49,10 +50,11 @@ static bool read_change(struct host *host, const char *rest) {
     return true;
 }
 
-/* Takes a pipe of a way from the front of a text. */
+/* Takes the number of a way's pipe from the front of a text. */
 static bool take_pipe(const struct host *host, const char **rest, int *pipe) { return take_int(rest, 1, host->carrier.ways, pipe); }
 
-/* outage NS PIPE LENGTH: where no packet waits for the pipe, one that nobody sent enters it with this length. */
+/* Reads `outage NS PIPE LENGTH`, the beginning of an outage: if no packet waits for the pipe, a packet of this length that nobody sent
+   enters it. */
 static bool read_outage(struct host *host, const char *rest) {
     uint64_t moment;
     int pipe, length;
@@ -61,7 +63,7 @@ static bool read_outage(struct host *host, const char *rest) {
     return true;
 }
 
-/* hold PIPE FROM TO: what would leave between these moments, in ns, leaves at the second. */
+/* Reads `hold PIPE FROM TO`: packets that would leave between these moments, in ns, leave at the second. */
 static bool read_hold(struct host *host, const char *rest) {
     int pipe;
     uint64_t from, to;
@@ -70,70 +72,52 @@ static bool read_hold(struct host *host, const char *rest) {
     return true;
 }
 
-/* slots PIPE MS ..: the moments of a trace, ascending, of which the last isn't 0. */
+/* Reads `slots PIPE MS ..`, the ascending moments of a trace, of which the last isn't 0. */
 static bool read_slots(struct host *host, const char *rest) {
-    size_t count = 0, room = strlen(rest);
+    size_t count = 0, most = strlen(rest);
+    uint64_t moment = 0;
     int pipe;
     if (!take_pipe(host, &rest, &pipe)) return false;
-    uint32_t *moments = grown(NULL, (room + 1) * sizeof *moments);
-    for (uint64_t moment, before = 0; *rest; before = moment) {
+    uint32_t *moments = reallocate(NULL, (most + 1) * sizeof *moments);
+    while (*rest) {
+        uint64_t before = moment;
         if (!take_number(&rest, &moment) || moment < before || moment > UINT32_MAX) return false;
         moments[count++] = (uint32_t)moment;
     }
-    if (!count || !moments[count - 1]) return false;
+    if (moment == 0) return false;
     add_slots(host->pacing, pipe, moments, count);
     return true;
 }
 
-/* Takes an address: 32 hex digits. */
-static bool take_address(const char **text, struct address *address) {
-    char high[17] = "", low[17] = "";
-    if (strspn(*text, "0123456789abcdef") != 32) return false;
-    memcpy(high, *text, 16);
-    memcpy(low, *text + 16, 16);
-    *address = (struct address){strtoull(high, NULL, 16), strtoull(low, NULL, 16)};
-    *text += 32 + ((*text)[32] == ' ');
-    return true;
-}
-
-static bool take_net(const char **text, struct net *net) { return take_address(text, &net->address) && take_address(text, &net->mask); }
-
-static bool take_span(const char **text, struct span *span) {
-    return take_int(text, 0, UINT16_MAX, &span->low) && take_int(text, 0, UINT16_MAX, &span->high);
-}
-
-/* map WAY KIND NUMBER PROTO DSCP SRC MASK DST MASK SPORT SPORT DPORT DPORT: KIND 0 is a pipe, 1 a queue; -1 is any; IPv6 addresses in hex. */
+/* Reads `map RULE`, a rule that sends packets to a pipe or a queue, in read_rule()'s form. */
 static bool read_map(struct host *host, const char *rest) {
     struct rule rule;
-    if (!take_int(&rest, 0, INT_MAX, &rule.way) || !take_int(&rest, DN_PIPE, DN_QUEUE, &rule.kind) || !take_int(&rest, 1, MOST_PIPE, &rule.number) ||
-        !take_int(&rest, -1, UINT8_MAX, &rule.proto) || !take_int(&rest, -1, UINT8_MAX, &rule.dscp) || !take_net(&rest, &rule.src) ||
-        !take_net(&rest, &rule.dst) || !take_span(&rest, &rule.sport) || !take_span(&rest, &rule.dport))
-        return false;
+    if (!read_rule(rest, &rule)) return false;
     add_rule(&host->rules, &rule);
     return true;
 }
 
 static bool take_way(const struct host *host, const char **rest, int *way) { return take_int(rest, 0, host->carrier.ways - 1, way); }
 
-/* Takes a chance of 2^31. */
+/* Takes a chance, of 2^31. */
 static bool take_chance(const char **rest, uint32_t *chance) {
     uint64_t number;
-    bool is_chance = take_number(rest, &number) && number <= UINT32_MAX;
+    if (!take_number(rest, &number) || number > UINT32_MAX) return false;
     *chance = (uint32_t)number;
-    return is_chance;
+    return true;
 }
 
-/* seed WAY N */
+/* Reads `seed WAY N`, the seed of a way's random words. A link's ways have the same seed, which is remarked once, and draw apart. */
 static bool read_seed(struct host *host, const char *rest) {
     int way;
     uint64_t seed;
     if (!take_way(host, &rest, &way) || !take_number(&rest, &seed)) return false;
     set_seed(host->losses, way, seed);
-    if (way == 0) remark(host->transcript, "#,seed,%" PRIu64 "\n", seed); /* both ways have the same, and draw apart */
+    if (way == 0) remark(host->transcript, "#,seed,%" PRIu64 "\n", seed);
     return true;
 }
 
-/* gilbert WAY TO_BAD TO_GOOD LOST_IN_GOOD LOST_IN_BAD */
+/* Reads `gilbert WAY TO_BAD TO_GOOD LOST_IN_GOOD LOST_IN_BAD`, the chances of a loss with two states. */
 static bool read_gilbert(struct host *host, const char *rest) {
     int way;
     uint32_t chances[4];
@@ -144,17 +128,20 @@ static bool read_gilbert(struct host *host, const char *rest) {
     return true;
 }
 
-/* list WAY N ..: the packets that are lost. */
+/* Reads `list WAY N ..`, the numbers of a way's packets that are lost. */
 static bool read_list(struct host *host, const char *rest) {
     int way;
+    uint64_t packet;
     if (!take_way(host, &rest, &way)) return false;
     set_chosen(host->losses, way);
-    for (uint64_t number; *rest; add_fault(host->passes, way, IS_LOST, number, 1))
-        if (!take_number(&rest, &number)) return false;
+    while (*rest) {
+        if (!take_number(&rest, &packet)) return false;
+        add_fault(host->passes, way, IS_LOST, packet, 1);
+    }
     return true;
 }
 
-/* fault WAY KIND N VALUE, as passes.h has them. */
+/* Reads `fault WAY KIND N VALUE`, a fault of the packet N as in passes.h. */
 static bool read_fault(struct host *host, const char *rest) {
     int way, kind, value;
     uint64_t packet;
@@ -164,7 +151,7 @@ static bool read_fault(struct host *host, const char *rest) {
     return true;
 }
 
-/* jitter WAY FIRST COUNT SEED: the pipes of a second pass. */
+/* Reads `jitter WAY FIRST COUNT SEED`, the pipes of a second pass. */
 static bool read_jitter(struct host *host, const char *rest) {
     int way, first, count;
     uint64_t seed;
@@ -174,7 +161,7 @@ static bool read_jitter(struct host *host, const char *rest) {
     return true;
 }
 
-/* duplicate WAY CHANCE SEED: the chance that a packet enters twice; corrupt WAY CHANCE SEED: that it leaves with a flipped bit. */
+/* Reads `WAY CHANCE SEED`, a chance that `set` gives to the way. */
 static bool read_chance(struct host *host, const char *rest, void (*set)(struct passes *passes, int way, uint32_t chance, uint64_t seed)) {
     int way;
     uint32_t chance;
@@ -184,65 +171,93 @@ static bool read_chance(struct host *host, const char *rest, void (*set)(struct 
     return true;
 }
 
+/* Reads `duplicate WAY CHANCE SEED`, the chance that a packet enters twice. */
 static bool read_copies(struct host *host, const char *rest) { return read_chance(host, rest, set_copies); }
 
+/* Reads `corrupt WAY CHANCE SEED`, the chance that a packet leaves with a flipped bit. */
 static bool read_corruption(struct host *host, const char *rest) { return read_chance(host, rest, set_corruption); }
 
-/* switch WAY WAY ..: the ways that end at a switch of frames. */
+/* Reads `switch WAY WAY ..`, the ways that end at a switch of frames. */
 static bool read_switch(struct host *host, const char *rest) {
-    int ways[MOST_PIPE], count = 0;
-    while (*rest)
-        if (count == MOST_PIPE || !take_way(host, &rest, &ways[count++])) return false;
+    int ways[MOST_PIPE];
+    int count = 0;
+    while (*rest) {
+        if (count == MOST_PIPE || !take_way(host, &rest, &ways[count])) return false;
+        count++;
+    }
     return count > 0 && add_switch(host->switches, ways, count);
 }
 
+/* Reads `realtime`: this program runs before all others, if the system allows it. */
 static bool read_realtime(struct host *host, const char *rest) {
     struct sched_param first = {.sched_priority = PRIORITY};
-    host->page->realtime = sched_setscheduler(0, SCHED_FIFO | SCHED_RESET_ON_FORK, &first) == 0 ? HAS_IT : NOT_ALLOWED;
+    bool is_allowed = sched_setscheduler(0, SCHED_FIFO | SCHED_RESET_ON_FORK, &first) == 0;
+    host->page->realtime = is_allowed ? HAS_IT : NOT_ALLOWED;
     return *rest == 0;
 }
 
-/* simulated: time passes only while all wait. So none passes in a turn of this program, if it comes before all others. */
+/* Reads `simulated`: time passes only while all programs wait. So time stands while this program works, if it runs before all others. */
 static bool read_simulated(struct host *host, const char *rest) {
-    host->clock.stands |= host->page->realtime == HAS_IT;
+    if (host->page->realtime == HAS_IT) host->clock.stands = true;
     return *rest == 0;
 }
 
-/* epoch NS: the time at which moments begin, by the system's monotonic clock. */
+/* Reads `epoch NS`, the time of the moment 0 by the system's monotonic clock. */
 static bool read_epoch(struct host *host, const char *rest) { return take_number(&rest, &host->clock.epoch) && !*rest; }
 
-/* main LINE: a line `at`, `outage` or `hold` whose moments begin with the main command. A pipe of it is paced from the beginning. */
-static bool read_main(struct host *host, const char *rest) {
-    const char *at = rest + strlen("at "), *hold = rest + strlen("hold ");
-    int pipe;
-    uint64_t moment;
-    struct plan *plan = &host->plan;
-    if (strncmp(rest, "hold ", strlen("hold ")) == 0 && take_pipe(host, &hold, &pipe)) pace(host->pacing, pipe);
-    else if (strncmp(rest, "at ", strlen("at ")) == 0 && take_number(&at, &moment)) refuse_wrong(host, at);
-    else if (strncmp(rest, "outage ", strlen("outage ")) != 0) return false;
-    plan->behind_main = grown(plan->behind_main, (plan->count + 1) * sizeof *plan->behind_main);
-    if (!(plan->behind_main[plan->count++] = strdup(rest))) fail("the plan", "out of memory");
+/* Moves a text behind a word at its front; false if the text begins otherwise. */
+static bool take_word(const char **text, const char *word) {
+    if (strncmp(*text, word, strlen(word)) != 0) return false;
+    *text += strlen(word);
     return true;
 }
 
+/* Tries a line of the main command in advance. The pipe of a `hold` is paced from now on. */
+static bool try_behind_main(struct host *host, const char *line) {
+    int pipe;
+    uint64_t moment;
+    if (take_word(&line, "outage ")) return true;
+    if (take_word(&line, "hold ")) {
+        if (!take_pipe(host, &line, &pipe)) return false;
+        pace(host->pacing, pipe);
+        return true;
+    }
+    if (!take_word(&line, "at ") || !take_number(&line, &moment)) return false;
+    refuse_wrong(host, line);
+    return true;
+}
+
+/* Reads `main LINE`, a line `at`, `outage` or `hold` whose moments count from the main command's beginning, and keeps the line until then. */
+static bool read_main(struct host *host, const char *rest) {
+    struct plan *plan = &host->plan;
+    if (!try_behind_main(host, rest)) return false;
+    char *line = strdup(rest);
+    if (!line) fail("the plan", "out of memory");
+    plan->behind_main = reallocate(plan->behind_main, (plan->count + 1) * sizeof *plan->behind_main);
+    plan->behind_main[plan->count++] = line;
+    return true;
+}
+
+/* Reads `remark WORDS`, a remark for the transcript. */
 static bool read_remark(struct host *host, const char *rest) {
     remark(host->transcript, "#,%s\n", rest);
     return true;
 }
 
-/* host NAME FREEZE KILL EVENTS: the descriptors of its cgroup's files, for acts. */
+/* Reads `host NAME FREEZE KILL EVENTS`, a net's host with the descriptors of its cgroup's files, for acts. */
 static bool read_host(struct host *host, const char *rest) { return add_host(host->acts, rest); }
 
-/* control DESCRIPTOR: where lines come from while packets pass. */
+/* Reads `control DESCRIPTOR`, a socket for messages while packets pass (control.h). */
 static bool read_control(struct host *host, const char *rest) { return take_int(&rest, 1, INT_MAX, &host->control) && !*rest; }
 
-/* contents: each packet is told by its content, as path audits need it. */
+/* Reads `contents`: the transcript gets a remark about each packet's content, which path audits need. */
 static bool read_contents(struct host *host, const char *rest) {
-    host->contents_are_told = true;
+    host->remarks_contents = true;
     return *rest == 0;
 }
 
-static bool read_one(struct host *host, const char *line) {
+/* Reads a line of the plan, by the function of its first word. False if the line has a wrong word. */
+static bool read_plan_line(struct host *host, const char *line) {
     /* clang-format off */
     static const struct { const char *word; bool (*read)(struct host *host, const char *rest); } kinds[] = {
         {"transcript ", read_transcript}, {"line ", read_line},     {"at ", read_change},         {"outage ", read_outage},
@@ -254,16 +269,16 @@ static bool read_one(struct host *host, const char *line) {
     };
     /* clang-format on */
     for (size_t i = 0; i < sizeof kinds / sizeof *kinds; i++)
-        if (strncmp(line, kinds[i].word, strlen(kinds[i].word)) == 0) return kinds[i].read(host, line + strlen(kinds[i].word));
+        if (take_word(&line, kinds[i].word)) return kinds[i].read(host, line);
     return false;
 }
 
 void begin_main(struct host *host, uint64_t moment) {
     struct plan *plan = &host->plan;
     plan->base = moment ? moment : 1; /* 0 is the links' beginning */
-    if (host->contents_are_told) remark(host->transcript, "#,main,%" PRIu64 "\n", plan->base);
+    if (host->remarks_contents) remark(host->transcript, "#,main,%" PRIu64 "\n", plan->base);
     for (size_t i = 0; i < plan->count; i++) {
-        if (!read_one(host, plan->behind_main[i])) refuse(plan->behind_main[i], "no line of a plan");
+        if (!read_plan_line(host, plan->behind_main[i])) refuse(plan->behind_main[i], "no line of a plan");
         free(plan->behind_main[i]);
     }
     plan->count = 0;
@@ -274,7 +289,7 @@ void read_plan(struct host *host) {
     size_t size = 0;
     while (getline(&line, &size, stdin) > 0) {
         line[strcspn(line, "\n")] = 0;
-        if (!read_one(host, line)) refuse(line, "no line of a plan");
+        if (!read_plan_line(host, line)) refuse(line, "no line of a plan");
     }
     if (ferror(stdin)) fail("the plan", strerror(errno));
     free(line);

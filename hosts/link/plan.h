@@ -1,4 +1,4 @@
-/* The plan, which `hinge run` writes on standard input: a line for each thing, of the forms in plan.c. */
+/* The plan: text on standard input, in which `hinge run` says what to emulate. Each line has one of the forms in plan.c. */
 #pragma once
 #include <stddef.h>
 #include <stdint.h>
@@ -6,13 +6,13 @@
 struct host;
 
 struct plan {
-    uint64_t base;      /* where the moments of the lines that are read begin: at that of the main command, or at 0 */
-    char **behind_main; /* lines without the word `main` */
-    size_t count;
+    uint64_t base;      /* the moment from which the moments in lines count: 0, or the main command's beginning */
+    char **behind_main; /* lines that wait for the main command, without their word `main` */
+    size_t count;       /* the number of these lines */
 };
 
-/* Reads the whole plan and does what it says of the beginning. A line that can't be obeyed ends the program with status 3. */
+/* Reads the whole plan, and follows the lines without a later moment. A wrong line ends the program with status 3. */
 void read_plan(struct host *host);
 
-/* The main command begins at this moment, and with it what the plan says behind `main`. */
+/* Notes that the main command begins at this moment, and reads the lines that waited for it. */
 void begin_main(struct host *host, uint64_t moment);

@@ -1,4 +1,4 @@
-/* TCP that the system hands over as one packet, with a note of how a card would cut it. It is cut here: each of its packets has a fate
+/* Long TCP packets, which the system leaves to a card to cut, with a note about the cuts. They are cut here, so that each packet has a fate
    of its own on the link. */
 #pragma once
 #include <linux/virtio_net.h>
@@ -6,30 +6,34 @@
 #include <stddef.h>
 
 enum {
-    NOTE = sizeof(struct virtio_net_hdr), /* bytes before each packet: what is left to a card, as its checksum */
-    LONGEST_WHOLE = 1 << 17,              /* bytes of what the system hands over */
-    LONGEST_HEADERS = 1024                /* bytes before the data of what is cut */
+    NOTE = sizeof(struct virtio_net_hdr), /* bytes of the note before each packet, which says what a card has to do, such as the checksum */
+    LONGEST_WHOLE = 1 << 17,              /* the most bytes of a packet from the system */
+    LONGEST_HEADERS = 1024                /* the most bytes before the data of a packet that is cut */
 };
 
-/* What was read, of which packets are handed on where they lie: a later one has its note and headers where the data before it were. */
+/* A packet from the system, and its state while it is cut. The packets that it is cut into lie in its bytes: each has its note and headers
+   in the place of the data before it. */
 struct whole {
-    unsigned char bytes[NOTE + LONGEST_WHOLE], headers[LONGEST_HEADERS]; /* to be read into; those before the data, without the note */
-    struct virtio_net_hdr note;
-    size_t len, before, cut; /* bytes of the packet, those before its data, and how many of the data have been handed on */
-    bool has_another;
+    unsigned char bytes[NOTE + LONGEST_WHOLE]; /* the note and the packet */
+    unsigned char headers[LONGEST_HEADERS];    /* a copy of the packet's bytes before the data */
+    struct virtio_net_hdr note;                /* a copy of the note */
+    size_t len;                                /* bytes of the packet */
+    size_t before;                             /* bytes before its data */
+    size_t cut;                                /* bytes of the data that have been cut off */
+    bool has_another;                          /* whether cut_next() has another packet */
 };
 
-/* Begins with what was read: a note, and a packet of `len` bytes. */
+/* Begins to cut the note and the packet of `len` bytes that have been read into the whole's bytes. */
 void begin_cutting(struct whole *whole, size_t len);
 
-/* The next packet, behind its note; it is good until the next call. Returns its length. */
+/* Returns the length of the next packet, which lies behind its note. The next call overwrites the packet. */
 size_t cut_next(struct whole *whole, unsigned char **packet);
 
-/* Completes the checksum that was left to a card, so that the packet behind its note is as it goes over a wire. */
+/* Completes the checksum that was left to a card, and clears the note: the packet is then as on a wire. */
 void finish_checksum(unsigned char *packet, size_t len);
 
-/* Has the IP header tell the length of the packet, and a number that is higher by so much than it was. */
+/* Writes another length into the header of an IP packet, and in IPv4 adds `number` to its identification. */
 void fit_ip(unsigned char *ip, size_t len, size_t number);
 
-/* Has the sum in the place of a checksum, from which a card goes on, be for another length of TCP or UDP than it was. */
+/* Adapts the partial sum, which a card completes to the checksum of TCP or UDP, from the length `was` to the length `is`. */
 void fit_checksum(unsigned char *checksum, size_t was, size_t is);

@@ -2,33 +2,37 @@
 
 enum { MS = 1000000 }; /* ns */
 
-static uint64_t moment_of(const struct slots *slots) { return slots->base + (uint64_t)slots->moments[slots->at] * MS; }
+/* Returns the moment, in ns, of a slot in the present period. */
+static uint64_t moment_of(const struct slots *slots, size_t place) { return slots->base + (uint64_t)slots->moments[place] * MS; }
 
 void seek(struct slots *slots, uint64_t moment, uint64_t bytes) {
     uint64_t period = (uint64_t)slots->moments[slots->count - 1] * MS;
-    slots->base = moment ? (moment - 1) / period * period : 0; /* its last moment is that of the next period's beginning */
-    size_t low = 0, high = slots->count - 1;
+    size_t low = 0;
+    size_t high = slots->count - 1;
+    slots->base = moment ? (moment - 1) / period * period : 0; /* the end of a period belongs to it, not to the next one */
     while (low < high) {
         size_t middle = low + (high - low) / 2;
-        if (slots->base + (uint64_t)slots->moments[middle] * MS < moment) low = middle + 1;
+        if (moment_of(slots, middle) < moment) low = middle + 1;
         else high = middle;
     }
     slots->at = low;
     slots->left = bytes;
 }
 
-static void go_on(struct slots *slots, uint64_t bytes) {
+/* Goes to the next slot, perhaps of the next period. */
+static void go_to_next(struct slots *slots, uint64_t bytes) {
     slots->left = bytes;
-    if (++slots->at < slots->count) return;
-    slots->base = moment_of(&(struct slots){slots->moments, slots->count, slots->base, slots->count - 1, 0});
+    slots->at++;
+    if (slots->at < slots->count) return;
+    slots->base = moment_of(slots, slots->count - 1);
     slots->at = 0;
 }
 
 uint64_t take_slots(struct slots *slots, uint64_t wanted, uint64_t bytes) {
     while (wanted > slots->left) {
         wanted -= slots->left;
-        go_on(slots, bytes);
+        go_to_next(slots, bytes);
     }
     slots->left -= wanted;
-    return moment_of(slots);
+    return moment_of(slots, slots->at);
 }

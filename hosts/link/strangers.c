@@ -12,15 +12,16 @@ enum { MOST = 65536, PLACES = 2 * MOST };
 
 struct stranger {
     unsigned char address[16];
-    uint32_t number; /* from 1; 0 in a free place */
+    uint32_t number; /* its number from 1 on, or 0 in a free place */
 };
 
 struct strangers {
     struct transcript *transcript;
-    uint32_t count;
-    struct stranger places[PLACES];
+    uint32_t count;                 /* the number of strangers */
+    struct stranger places[PLACES]; /* a hash table: a stranger is in its first place or behind it, before a free place */
 };
 
+/* Returns the place where the search for an address begins. */
 static size_t first_place(const unsigned char address[16]) {
     uint64_t half[2];
     memcpy(half, address, sizeof half);
@@ -28,26 +29,32 @@ static size_t first_place(const unsigned char address[16]) {
 }
 
 struct strangers *new_strangers(struct transcript *transcript) {
-    struct strangers *strangers = zeroed(sizeof *strangers);
+    struct strangers *strangers = allocate_zeros(sizeof *strangers);
     strangers->transcript = transcript;
     return strangers;
 }
 
+/* Remarks the address that stands for a stranger, and the stranger's address. */
 static void remark_address(struct transcript *transcript, uint32_t stand_in, const unsigned char *address) {
     remark(transcript, "#,address,%u.%u.%u.%u", stand_in >> 24, stand_in >> 16 & 255, stand_in >> 8 & 255, stand_in & 255);
-    for (int i = 0; i < 16; i += 2) remark(transcript, "%c%04x", i ? ':' : ',', two(address + i));
+    for (int i = 0; i < 16; i += 2) remark(transcript, "%c%04x", i ? ':' : ',', u16_at(address + i));
     remark(transcript, "\n");
 }
 
+/* Puts a stranger into a free place, and returns the address that stands for it. */
+static uint32_t add_stranger(struct strangers *strangers, struct stranger *place, const unsigned char address[16]) {
+    strangers->count++;
+    place->number = strangers->count;
+    memcpy(place->address, address, 16);
+    remark_address(strangers->transcript, FIRST_STAND_IN + place->number, address);
+    return FIRST_STAND_IN + place->number;
+}
+
 uint32_t stand_in(struct strangers *strangers, const unsigned char address[16]) {
-    struct stranger *seen = strangers->places;
+    const struct stranger *places = strangers->places;
     size_t at = first_place(address);
-    while (seen[at].number && memcmp(seen[at].address, address, 16) != 0) at = (at + 1) % PLACES;
-    if (!seen[at].number) {
-        if (strangers->count == MOST) return SHARED;
-        seen[at].number = ++strangers->count;
-        memcpy(seen[at].address, address, 16);
-        remark_address(strangers->transcript, FIRST_STAND_IN + strangers->count, address);
-    }
-    return FIRST_STAND_IN + seen[at].number;
+    while (places[at].number && memcmp(places[at].address, address, 16) != 0) at = (at + 1) % PLACES;
+    if (places[at].number) return FIRST_STAND_IN + places[at].number;
+    if (strangers->count == MOST) return SHARED;
+    return add_stranger(strangers, &strangers->places[at], address);
 }

@@ -21,38 +21,45 @@ enum { BUFFER = 1 << 16, CLOSED = -1 };
 
 struct transcript {
     struct page *page;
-    const char *name;
-    uint64_t longest;
-    bool failed;  /* a part couldn't be written */
-    int priority; /* of writers, or 0 */
+    const char *name; /* the file of its first part */
+    uint64_t longest; /* bytes that a part should have at most */
+    bool failed;      /* whether a part couldn't be written */
+    int priority;     /* of the writers, or 0 */
 
-    /* Of the present part: its writer and the pipe to it, how many bytes it has at most, by how many fewer are written, and its packets. */
-    pid_t writer;
-    int pipe;
-    uint64_t most;
-    _Atomic uint64_t *spared;
-    uint64_t submits;
+    /* The present part. */
+    pid_t writer;             /* the process that writes it */
+    int pipe;                 /* the pipe to the writer, or CLOSED */
+    uint64_t most;            /* bytes that its lines have at most */
+    _Atomic uint64_t *spared; /* bytes by which the written lines are shorter */
+    uint64_t submits;         /* the number of its packets */
 
-    unsigned char *records; /* that aren't handed on yet */
-    size_t used, room;
+    /* The records that haven't been handed to the writer yet. */
+    unsigned char *records;
+    size_t used; /* bytes of these records */
+    size_t room; /* bytes for which there is room */
 };
 
 struct transcript *new_transcript(struct page *page) {
-    struct transcript *transcript = zeroed(sizeof *transcript);
-    *transcript = (struct transcript){.page = page, .pipe = CLOSED, .records = zeroed(BUFFER), .room = BUFFER};
+    struct transcript *transcript = allocate_zeros(sizeof *transcript);
+    *transcript = (struct transcript){.page = page, .pipe = CLOSED, .records = allocate_zeros(BUFFER), .room = BUFFER};
     return transcript;
 }
 
+/* Hands all records to the writer. If this fails, they are lost, and the transcript has failed. */
 static void hand_on(struct transcript *transcript) {
-    for (size_t at = 0; at < transcript->used;) {
+    size_t at = 0;
+    while (at < transcript->used) {
         ssize_t done = write(transcript->pipe, transcript->records + at, transcript->used - at);
-        transcript->failed |= done < 0;
-        at = done < 0 ? transcript->used : at + (size_t)done;
+        if (done < 0) {
+            transcript->failed = true;
+            break;
+        }
+        at += (size_t)done;
     }
     transcript->used = 0;
 }
 
-/* At an end of the program without that of the transcript: what is written is as much as there is. */
+/* Hands the last records to the writer if the program ends without ending the transcript. */
 static void hand_on_last(int status, void *transcript) {
     (void)status;
     hand_on(transcript);
@@ -63,25 +70,37 @@ void prefer_writer(struct transcript *transcript, int priority) {
     if (priority && transcript->writer) sched_setscheduler(transcript->writer, SCHED_FIFO, &(struct sched_param){.sched_priority = priority});
 }
 
-/* Begins a part. A process of its own writes it, so that a slow disk keeps no packet waiting. It is locked against other runs before it is
-   emptied. */
-static void begin(struct transcript *transcript, const char *path) {
-    int made = open(path, O_WRONLY | O_CREAT | O_CLOEXEC, 0666), ends[2];
-    if (made < 0) fail(path, strerror(errno));
-    if (flock(made, LOCK_EX | LOCK_NB) < 0 && errno == EWOULDBLOCK) fail(path, "another run writes it"); /* until its writer ends */
-    if (ftruncate(made, 0) < 0 && errno != EINVAL) fail(path, strerror(errno));                          /* a pipe has no length */
+/* Opens a part's file and empties it. A lock keeps other runs away from it until its writer ends. */
+static int open_empty(const char *path) {
+    int file = open(path, O_WRONLY | O_CREAT | O_CLOEXEC, 0666);
+    if (file < 0) fail(path, strerror(errno));
+    if (flock(file, LOCK_EX | LOCK_NB) < 0 && errno == EWOULDBLOCK) fail(path, "another run writes it");
+    if (ftruncate(file, 0) < 0 && errno != EINVAL) fail(path, strerror(errno)); /* EINVAL: a pipe has no length */
+    return file;
+}
+
+/* Starts the process that writes a part, so that a slow disk keeps no packet waiting. */
+static void start_writer(struct transcript *transcript, const char *path) {
+    int file = open_empty(path);
+    int ends[2];
     transcript->spared = mmap(NULL, sizeof *transcript->spared, PROT_READ | PROT_WRITE, MAP_SHARED | MAP_ANONYMOUS, -1, 0);
-    transcript->writer = transcript->spared == MAP_FAILED || pipe2(ends, O_CLOEXEC) < 0 ? -1 : fork();
+    if (transcript->spared == MAP_FAILED || pipe2(ends, O_CLOEXEC) < 0) fail("the transcript", strerror(errno));
+    transcript->writer = fork();
     if (transcript->writer < 0) fail("the transcript", strerror(errno));
     if (transcript->writer == 0) {
         close(ends[1]);
-        write_part(ends[0], made, path, transcript->spared);
+        write_part(ends[0], file, path, transcript->spared);
     }
     close(ends[0]);
-    close(made);
+    close(file);
     fcntl(ends[1], F_SETPIPE_SZ, (int)MEGABYTE);
     transcript->pipe = ends[1];
-    transcript->most = transcript->submits = 0;
+}
+
+static void begin_part(struct transcript *transcript, const char *path) {
+    start_writer(transcript, path);
+    transcript->most = 0;
+    transcript->submits = 0;
     transcript->page->parts++;
     prefer_writer(transcript, transcript->priority);
 }
@@ -90,7 +109,7 @@ void open_transcript(struct transcript *transcript, const char *path, uint64_t m
     transcript->name = strdup(path);
     transcript->longest = most;
     on_exit(hand_on_last, transcript);
-    begin(transcript, path);
+    begin_part(transcript, path);
 }
 
 void hand_on_transcript(struct transcript *transcript) {
@@ -98,15 +117,20 @@ void hand_on_transcript(struct transcript *transcript) {
 }
 
 bool transcript_is_long(const struct transcript *transcript) {
-    return transcript->pipe != CLOSED && transcript->submits && transcript->most - *transcript->spared > transcript->longest;
+    if (transcript->pipe == CLOSED || transcript->submits == 0) return false;
+    return transcript->most - *transcript->spared > transcript->longest;
 }
 
-/* Puts a record, whose body is of two pieces. */
+/* Adds a record, whose body has two pieces, for the writer. */
 static inline void put(struct transcript *transcript, enum kind kind, const void *first, size_t first_size, const void *second, size_t second_size) {
-    size_t size = first_size + second_size, whole = whole_size(size);
+    size_t size = first_size + second_size;
+    size_t whole = whole_size(size);
     if (transcript->pipe == CLOSED) return;
     if (whole > transcript->room - transcript->used) hand_on(transcript);
-    if (whole > transcript->room) transcript->records = grown(transcript->records, transcript->room = whole);
+    if (whole > transcript->room) {
+        transcript->records = reallocate(transcript->records, whole);
+        transcript->room = whole;
+    }
     struct record *record = (void *)(transcript->records + transcript->used);
     *record = (struct record){kind, size};
     memcpy(record->body, first, first_size);
@@ -115,7 +139,7 @@ static inline void put(struct transcript *transcript, enum kind kind, const void
     transcript->most += TIMES * whole;
 }
 
-static void end(struct transcript *transcript) {
+static void end_part(struct transcript *transcript) {
     put(transcript, END, "", 0, "", 0);
     hand_on(transcript);
     close(transcript->pipe);
@@ -125,15 +149,17 @@ static void end(struct transcript *transcript) {
 
 void next_part(struct transcript *transcript) {
     char path[4096];
-    end(transcript);
+    end_part(transcript);
     snprintf(path, sizeof path, "%s.%" PRIu64, transcript->name, transcript->page->parts);
-    begin(transcript, path);
+    begin_part(transcript, path);
 }
 
 bool close_transcript(struct transcript *transcript) {
+    int status;
     if (transcript->pipe == CLOSED) return true;
-    end(transcript);
-    for (int status; wait(&status) > 0;) transcript->failed |= status != 0;
+    end_part(transcript);
+    while (wait(&status) > 0)
+        if (status != 0) transcript->failed = true;
     return !transcript->failed;
 }
 

@@ -11,7 +11,7 @@
 
 struct tuns {
     const int *interfaces;
-    struct whole whole; /* of one way, which is taken to its end before another's turn */
+    struct whole whole; /* the packet that is being cut; another way has its turn when nothing of it is left */
 };
 
 static bool goes_on(const void *state) {
@@ -38,21 +38,23 @@ static bool transmit(void *state, int way, const struct bytes *packets, int coun
     return writev(tuns->interfaces[back(way)], parts, count) >= 0;
 }
 
-static bool takes_udp_at_once(void) {
+/* Whether the system accepts joined UDP packets, as Linux does from 6.2 on. */
+static bool accepts_joined_udp(void) {
     struct utsname system = {0};
     char *rest;
     uname(&system);
-    long major = strtol(system.release, &rest, 10), minor = *rest ? strtol(rest + 1, NULL, 10) : 0;
+    long major = strtol(system.release, &rest, 10);
+    long minor = *rest ? strtol(rest + 1, NULL, 10) : 0;
     return major > 6 || (major == 6 && minor >= 2);
 }
 
 struct carrier tun_carrier(int count, const int *descriptors) {
-    struct tuns *tuns = zeroed(sizeof *tuns);
+    struct tuns *tuns = allocate_zeros(sizeof *tuns);
     tuns->interfaces = descriptors;
     for (int way = 0; way < count; way++) fcntl(descriptors[way], F_SETFL, O_NONBLOCK);
     struct carrier carrier = {.ways = count, .polled = descriptors, .prefix = NOTE, .state = tuns, .receive = receive, .transmit = transmit};
     carrier.goes_on = goes_on;
     carrier.finish = finish_checksum;
-    carrier.joins = takes_udp_at_once() ? joins : joins_tcp;
+    carrier.joins = accepts_joined_udp() ? joins : joins_tcp;
     return carrier;
 }

@@ -10,52 +10,60 @@
 
 struct udp {
     const struct clock *clock;
-    struct way *ways; /* the counts of both */
-    int front, polled[2];
+    struct way *ways; /* the counts of both ways */
+    int front;        /* the socket to which clients send */
+    int polled[2];    /* the descriptors to wait for on each way */
     union end server;
     struct clients *clients;
     unsigned char bytes[LONGEST];
 };
 
-/* Turns a datagram away. It is dropped whole, and counted. */
+/* Counts a datagram as turned away, and returns 0: nothing enters the link. */
 static ssize_t turn_away(struct udp *udp, int way) {
     udp->ways[way].turned_away++;
     return 0;
 }
 
-/* A datagram of a client. Those of clients that there can't be are turned away, and those longer than a packet of a link, with its headers:
-   IPv6 has some. MSG_TRUNC has their true length told. */
+/* Receives a datagram of a client. It is turned away if there can't be another client, or if the packet would be longer than a link's
+   longest, as with some of IPv6. MSG_TRUNC returns the length of the whole datagram. */
 static ssize_t receive_from_client(struct udp *udp) {
     size_t headers = headers_length(udp->server.any.sa_family);
     union end from;
     socklen_t length = sizeof from;
     ssize_t data = recvfrom(udp->front, udp->bytes + headers, LONGEST - headers, MSG_DONTWAIT | MSG_TRUNC, &from.any, &length);
     if (data < 0) return -1;
-    struct client *client = (size_t)data > LONGEST - headers ? NULL : client_of(udp->clients, &from, udp->clock->last);
+    if ((size_t)data > LONGEST - headers) return turn_away(udp, 0);
+    struct client *client = find_or_add_client(udp->clients, &from, udp->clock->last);
     if (!client) return turn_away(udp, 0);
     note_active(udp->clients, client, udp->clock->last);
     write_headers(udp->bytes, (size_t)data, &from, &udp->server);
     return (ssize_t)headers + data;
 }
 
-/* A datagram that was sent found no server. */
+/* Counts a datagram, which has been counted as sent, as refused: the server's system has no socket for it. */
 static void note_refused(struct way *way) {
     if (way->sent == 0) return;
     way->sent--;
     way->refused++;
 }
 
+/* Takes a datagram of the server that a client's socket has received. */
+static ssize_t take_reply(struct udp *udp, struct client *client, size_t headers, size_t data) {
+    if (data > LONGEST - headers) return turn_away(udp, 1);
+    note_active(udp->clients, client, udp->clock->last);
+    write_headers(udp->bytes, data, &udp->server, &client->end);
+    return (ssize_t)(headers + data);
+}
+
+/* Receives a datagram of the server from the first socket that has one. */
 static ssize_t receive_from_server(struct udp *udp) {
     size_t headers = headers_length(udp->server.any.sa_family);
-    for (struct client *client; (client = ready_client(udp->clients));) {
+    struct client *client = next_ready_client(udp->clients);
+    while (client) {
         ssize_t data = recv(client->socket, udp->bytes + headers, LONGEST - headers, MSG_DONTWAIT | MSG_TRUNC);
-        if (data >= 0 && (size_t)data > LONGEST - headers) return turn_away(udp, 1);
-        if (data >= 0) {
-            note_active(udp->clients, client, udp->clock->last);
-            write_headers(udp->bytes, (size_t)data, &udp->server, &client->end);
-            return (ssize_t)headers + data;
-        }
+        if (data >= 0) return take_reply(udp, client, headers, (size_t)data);
         if (errno == ECONNREFUSED) note_refused(&udp->ways[0]);
+        client = next_ready_client(udp->clients);
     }
     return -1;
 }
@@ -66,30 +74,31 @@ static ssize_t receive(void *state, int way, unsigned char **packet) {
     return way == 0 ? receive_from_client(udp) : receive_from_server(udp);
 }
 
-/* Sends to the server by a client's socket; once more where the first try was told of an earlier datagram's refusal. */
-static bool to_server(struct way *way, int socket, const unsigned char *data, size_t len) {
+/* Sends to the server from a client's socket. The first try may only report the refusal of an earlier datagram; then there is a second one. */
+static bool send_to_server(struct way *way, int socket, const unsigned char *data, size_t len) {
     if (send(socket, data, len, MSG_DONTWAIT) >= 0) return true;
     if (errno != ECONNREFUSED) return false;
     note_refused(way);
     return send(socket, data, len, MSG_DONTWAIT) >= 0;
 }
 
-/* Packets aren't joined: there is one. */
+/* Sends a packet's data from the socket of its way. This carrier doesn't join packets, so there is one. */
 static bool transmit(void *state, int way, const struct bytes *packets, int count) {
     struct udp *udp = state;
     union end end = client_end(way, packets->at);
-    size_t headers = headers_length(end.any.sa_family), len = packets->len - headers;
+    size_t headers = headers_length(end.any.sa_family);
+    size_t len = packets->len - headers;
     const unsigned char *data = packets->at + headers;
-    struct client *client = known_client(udp->clients, &end);
-    if (!client || count != 1) return false; /* it was let go */
+    struct client *client = find_client(udp->clients, &end);
+    if (!client || count != 1) return false; /* a quiet client has been removed */
     note_active(udp->clients, client, udp->clock->last);
-    if (way == 0) return to_server(&udp->ways[0], client->socket, data, len);
+    if (way == 0) return send_to_server(&udp->ways[0], client->socket, data, len);
     return sendto(udp->front, data, len, MSG_DONTWAIT, &client->end.any, end_length(end.any.sa_family)) >= 0;
 }
 
 static void look_after(void *state, uint64_t moment) {
     struct udp *udp = state;
-    let_go_of_quiet_clients(udp->clients, moment);
+    remove_quiet_clients(udp->clients, moment);
 }
 
 static void end(void *state) {
@@ -98,6 +107,7 @@ static void end(void *state) {
     count_dropped_of_clients(udp->clients);
 }
 
+/* Returns the end of a server with this address. Ends the program if the address is wrong. */
 static union end server_end(const char *address, in_port_t port) {
     union end server = {0};
     if (inet_pton(AF_INET, address, &server.four.sin_addr) == 1) {
@@ -111,7 +121,7 @@ static union end server_end(const char *address, in_port_t port) {
 }
 
 struct carrier udp_carrier(int front, const char *address, const char *port, struct page *page, const struct clock *clock) {
-    struct udp *udp = zeroed(sizeof *udp);
+    struct udp *udp = allocate_zeros(sizeof *udp);
     udp->clock = clock;
     udp->ways = page->ways;
     udp->front = front;

@@ -1,5 +1,5 @@
-/* How long a packet can have lain before it was read: since the last moment at which its interface is known to have been empty, or at
-   which the packet that was QUEUE before it was taken, since the system keeps no more for this program. */
+/* How long a packet can have lain unread. It came behind the last moment at which its interface is known to have been empty. It also came
+   behind the moment at which the packet QUEUE places before it was taken, since the system keeps no more packets for this program. */
 #pragma once
 #include <stdbool.h>
 #include <stdint.h>
@@ -9,22 +9,22 @@
 
 enum { QUEUE = 10000 }; /* packets that the system keeps, as rooms.py asks for */
 
+/* Begins to measure at `ways` ways (a way is one direction of a link). */
 struct unread *begin_unread(int ways, struct clock *clock);
 
-/* Something that the system kept as one packet was taken of a way at a moment. */
+/* Notes that a packet, as the system kept it, was taken from a way's interface at a moment. */
 void note_taken(struct unread *unread, int way, uint64_t moment);
 
-/* How long a packet in it can have lain, in ns. */
+/* Returns the ns for which the packet that was taken last can have lain. */
 uint64_t has_lain(const struct unread *unread, int way);
 
-/* The interface of a way had nothing more at a moment: that at which it was found empty, or an earlier one behind the last packet that was
-   taken of it. */
+/* Notes that a way's interface was empty at a moment: when it was found empty, or earlier, but behind the last packet taken from it. */
 void note_empty(struct unread *unread, int way, uint64_t moment);
 
-/* This program takes from the interface of a way, and may leave something there. */
+/* Notes that packets are being taken from a way's interface, and that some may remain there. */
 void note_unemptied(struct unread *unread, int way);
 
-/* A wait has ended at a moment, at which the interfaces of these ways had something, and all others had nothing. `slept` where it was
-   a wait at all: what woke it then came when this program was put into the queue for a processor, and not before. Where it was paused
-   meanwhile, that can have come since the last moment of the wait at which nothing was there. */
+/* Notes the end of a wait at a moment. The interfaces of its ready ways then had packets, and all others were empty. If the program slept,
+   these packets came when it was put into the queue for a processor, not before. If it was paused meanwhile, they can have come at any
+   moment of the sleep. */
 void note_wait(struct unread *unread, uint64_t moment, const struct wait *wait);

@@ -5,20 +5,24 @@
 
 #include "basics.h"
 
+/* How a wait ended, and what came. */
 struct wait {
     enum { PACKETS_OR_MOMENT, SIGNAL, INTERFACE_GONE } end;
-    bool slept;       /* whether it was a wait at all: when it began, nothing was there; where time stands, whether it may have been one */
-    bool punctual;    /* whether only its moment came, at which the clock is now without a reading */
-    bool paused;      /* whether this program was stopped meanwhile, as by SIGSTOP, a freezer or a debugger */
-    uint64_t nothing; /* the last moment of the wait at which nothing was there, where it slept */
-    uint64_t timer;   /* the moment of the first timer behind that, which would have ended it */
-    const int *ready; /* the ways that have packets, until the next wait */
-    int count;
-    bool control; /* whether the descriptor for lines has some, or is at its end */
+    bool slept;       /* whether nothing had come at first, so that the program slept; if time stands (basics.h), whether it may have slept */
+    bool punctual;    /* whether the moment alone has come, to which the clock has been set without a reading */
+    bool paused;      /* whether this program was stopped during its sleep, as by SIGSTOP, a freezer or a debugger */
+    uint64_t nothing; /* the last moment before the sleep, at which nothing had come */
+    uint64_t timer;   /* the moment of the first timer behind `nothing`, which would have ended the sleep */
+    const int *ready; /* the ways (a way is one direction of a link) that have packets; the next wait overwrites the list */
+    int count;        /* the number of ways in `ready` */
+    bool control;     /* whether messages have come from the control descriptor, or its end */
 };
 
-/* Gets a descriptor of each way, or -1, one that can be read once the signal has come, and one for lines, or -1. */
-struct waits *begun_waits(struct clock *clock, const int *polled, int ways, int signal, int control, bool spins);
+/* Prepares waits for `ways` ways: `polled` has a descriptor for each, or -1. The descriptor `signal` can be read once the signal has come,
+   and `control` (-1 for none) has the messages to this program. If it `spins`, it polls for a short time before a moment instead of
+   sleeping. */
+struct waits *new_waits(struct clock *clock, const int *polled, int ways, int signal, int control, bool spins);
 
-/* A moment that has passed since the clock was read last is told at once. */
+/* Waits until a moment, until packets or messages have come, or until the signal. Returns at once if the moment isn't behind the last
+   reading of the clock. */
 struct wait wait_until(struct waits *waits, uint64_t moment);

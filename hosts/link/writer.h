@@ -1,21 +1,30 @@
-/* The process that writes a part of a transcript. It gets records through a pipe and makes their lines, so that no packet waits for a line. */
+/* The process that writes a part of a transcript. It gets records through a pipe and turns them into lines, so that no packet waits for
+   this. */
 #pragma once
 #include <stdatomic.h>
 #include <stdint.h>
 
-/* What a record is of. Its body has the struct dn_packet and the struct dn_fate of a submit; the moment of a collect and each struct
-   dn_delivery; the moment of an advance and the one that counted; the status of a line and the line; the number by which a packet is known
-   again; a remark; and nothing at the end of a part. Numbers have 8 bytes. Those up to CONFIGURE are entries. */
-enum kind { SUBMIT, COLLECT, ADVANCE, CONFIGURE, CONTENT, REMARK, END };
+/* The kinds of records, with their bodies. Numbers have 8 bytes. The kinds up to CONFIGURE are entries, which the last line counts. */
+enum kind {
+    SUBMIT,    /* a struct dn_packet, and its struct dn_fate */
+    COLLECT,   /* the moment, and a struct dn_delivery for each packet */
+    ADVANCE,   /* the moment, and the moment that counted */
+    CONFIGURE, /* the status, and the line */
+    CONTENT,   /* the number of the next packet's content */
+    REMARK,    /* the remark's text */
+    END        /* nothing: the part ends */
+};
 
 struct record {
-    uint64_t kind, size; /* of the body in bytes; the next record begins behind it at a multiple of 8 */
+    uint64_t kind;
+    uint64_t size; /* bytes of the body */
     unsigned char body[];
 };
 
-enum { TIMES = 3 }; /* by which the lines of records are at most longer than the records */
+enum { TIMES = 3 }; /* lines are at most three times as long as their records */
 
+/* Returns the bytes from a record, whose body has `size` bytes, to the next record: a multiple of 8. */
 static inline uint64_t whole_size(uint64_t size) { return sizeof(struct record) + (size + 7) / 8 * 8; }
 
-/* The whole life of the process, until the pipe ends. It counts by how many bytes the lines are shorter than the most that they can be. */
+/* Runs the process until the pipe ends. Adds to `spared` by how many bytes the lines are shorter than they can be. */
 _Noreturn void write_part(int pipe, int file, const char *path, _Atomic uint64_t *spared);

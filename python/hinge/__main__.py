@@ -7,7 +7,7 @@ import gc
 import os
 import sys
 
-# as a file, since `python -m hinge` looks for modules in the folder where it is called, before all others
+# This file is run by its path, because `python -m hinge` would look for modules in the current folder first.
 if not __package__:
     sys.path[0] = os.path.dirname(os.path.dirname(os.path.realpath(__file__)))
 
@@ -32,8 +32,9 @@ COMMANDS = {
     "docs": "the pages of the documentation",
 }
 USAGE = 2  # the exit status
-NOT_OF_DUMMYNET = "--not-of-dummynet"  # how ./dummynet asks what to write for words that it doesn't know
-HELP, VERSION = ("help", "-h", "--help"), ("--version", "-V")
+NOT_OF_DUMMYNET = "--not-of-dummynet"  # the option with which ./dummynet asks what to write in place of unknown words
+HELP = ("help", "-h", "--help")
+VERSION = ("--version", "-V")
 
 
 def list_of_commands() -> str:
@@ -48,13 +49,9 @@ def list_of_commands() -> str:
 
 def refuse(words: list[str], program: str = "hinge") -> None:
     """Refuses an unknown first word with advice, and ends the process."""
-    import difflib  # as the next, which a wrong word alone needs
-    import shlex
-
-    from hinge.border import terminal
+    from hinge.border import terminal  # only a wrong word needs these modules
     from hinge.border.programs import become
-    from hinge.foreign import answer_of
-    from hinge.misplaced import advised, filled, kind_of, line_for
+    from hinge.misplaced import advised
     from hinge.program import dummynet
 
     if program == "dummynet" and words[0] in ("audit", "replay"):
@@ -63,35 +60,46 @@ def refuse(words: list[str], program: str = "hinge") -> None:
             sys.exit(become([dummynet(), *words]))
         terminal.tell(f"{program}{wrong.replace(';', ':', 1)}")
         sys.exit(USAGE)
-    answer = answer_of(words)
-    near = difflib.get_close_matches(words[0], COMMANDS, 1)
-    files = [word for word in words if os.path.exists(word) and kind_of(word)]
-    place = next((place for place, word in enumerate(words) if word.lower() in COMMANDS), -1)
-    if program == "dummynet" and len(files) == 2 and files == words[-2:]:
-        text = advised("replay", files, "").lstrip("; ") or f"write dummynet replay {shlex.join(files)}"
-    elif place == 0 or place > 0 and words[0].startswith("-"):
-        text = f"write hinge {shlex.join([words[place].lower(), *words[place + 1 :]])}"
-    elif answer is not None and all(file in filled(answer.write, words) for file in files):
-        text = answer._replace(write=filled(answer.write, words)).text()
-    elif files:
-        text = f"{files[0]} is {filled(line_for(program, kind_of(files[0]), files[0]), words)}"
-    else:
-        text = f"did you mean `hinge {near[0]}`?" if near else "`hinge help` lists the commands."
-    terminal.tell(f"{program}: no command {words[0]!r}; {text}")
+    terminal.tell(f"{program}: no command {words[0]!r}; {advice_on(words, program)}")
     sys.exit(USAGE)
 
 
+def advice_on(words: list[str], program: str) -> str:
+    """Returns advice on words that don't begin with a command."""
+    import difflib
+    import shlex
+
+    from hinge.foreign import answer_of
+    from hinge.misplaced import advised, filled, kind_of, line_for
+
+    files = [word for word in words if os.path.exists(word) and kind_of(word)]
+    if program == "dummynet" and len(files) == 2 and files == words[-2:]:
+        return advised("replay", files, "").lstrip("; ") or f"write dummynet replay {shlex.join(files)}"
+    place = next((place for place, word in enumerate(words) if word.lower() in COMMANDS), -1)
+    if place == 0 or (place > 0 and words[0].startswith("-")):
+        return f"write hinge {shlex.join([words[place].lower(), *words[place + 1 :]])}"
+    answer = answer_of(words)
+    if answer is not None:
+        answer = answer._replace(write=filled(answer.write, words))
+        if all(file in answer.write for file in files):
+            return answer.text()
+    if files:
+        return f"{files[0]} is {filled(line_for(program, kind_of(files[0]), files[0]), words)}"
+    near = difflib.get_close_matches(words[0], COMMANDS, 1)
+    return f"did you mean `hinge {near[0]}`?" if near else "`hinge help` lists the commands."
+
+
 def run_module(word: str) -> None:
-    """Runs a command with its words."""
+    """Runs the module of a command, which reads its words from sys.argv."""
     import importlib
 
     importlib.import_module(f"hinge.commands.{word.replace('-', '_')}").main()
 
 
 def inherit_nothing() -> None:
-    """Signals behave as in a program that a shell starts, whatever the parent ignores or blocks: while SIGCHLD is ignored, ends of
-    processes go unnoticed. SIGINT and SIGHUP stay ignored, as by `&` and nohup. Files from this process belong to its user,
-    whatever the umask. No module on PYTHONPATH replaces a module of the standard library, and no warning replaces an answer."""
+    """Replaces settings that the parent process may have changed. Restores SIGCHLD and blocked signals, since ends of processes go
+    unnoticed while SIGCHLD is ignored; SIGINT and SIGHUP stay ignored, as by `&` and nohup. Lets this user read and write all new
+    files, whatever the umask. Keeps modules on PYTHONPATH from replacing the standard library's, and warnings from the output."""
     _signal.signal(_signal.SIGCHLD, _signal.SIG_DFL)
     _signal.pthread_sigmask(_signal.SIG_SETMASK, ())
     os.umask(os.umask(0o077) & 0o077)
@@ -110,7 +118,7 @@ def obey(words: list[str]) -> None:
     from hinge.version import version
 
     if words[:1] == ["help"] and len(words) > 1:
-        words = [words[1], *(["--help"] if words[1] in COMMANDS else [])]
+        words = [words[1], "--help"] if words[1] in COMMANDS else [words[1]]
     if not words:
         terminal.tell(list_of_commands(), "")
         sys.exit(USAGE)
@@ -130,9 +138,9 @@ def obey(words: list[str]) -> None:
 
 def main() -> None:
     inherit_nothing()
-    gc.set_threshold(20_000)  # modules that load are many objects, of which none goes
+    gc.set_threshold(20_000)  # loading modules creates many objects that stay, so that collections would find nothing
     if _signal.getsignal(_signal.SIGINT) is _signal.default_int_handler:
-        _signal.signal(_signal.SIGINT, _signal.SIG_DFL)  # ends it without a word, until `command.run` has its own
+        _signal.signal(_signal.SIGINT, _signal.SIG_DFL)  # ends the process without a message, until `command.run` handles SIGINT
     from hinge import command
 
     command.open_closed_streams()

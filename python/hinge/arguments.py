@@ -1,5 +1,5 @@
-"""The common parts of command lines: inputs and bounded numbers. A help needs no other module, so some numbers and names of other
-modules are here."""
+"""The common parts of command lines: inputs and bounded numbers. Some numbers and names from other modules are here, so that a
+help doesn't load these modules."""
 
 from __future__ import annotations
 
@@ -16,12 +16,14 @@ if TYPE_CHECKING:
 
 SOURCE = "a history or the transcript of a live session, or a packet file and the report that dummynet wrote of it; `-` is standard input"
 RULE = (
-    "[up|down] [tcp|udp|icmp|icmp6|proto N] [src|dst|host NET] [port|sport|dport N[-M]] [dscp N]"  # that says where a packet goes
+    "[up|down] [tcp|udp|icmp|icmp6|proto N] [src|dst|host NET] [port|sport|dport N[-M]] [dscp N]"  # a rule says where a packet goes
 )
-MODEL_NAMES = ("register", "cas", "set", "queue", "list", "lock")  # of what clients' operations are on
-WAYS = ("tuple", "flow", "target")  # that tell flows apart
-TABLE_FLOWS, PICTURE_FLOWS = 40, 8  # the most
-MOST_DIGITS = 20  # of a number: none that the kit reads is longer, and Python refuses to read one of thousands
+MODEL_NAMES = ("register", "cas", "set", "queue", "list", "lock")  # the kinds of objects on which clients operate
+WAYS = ("tuple", "flow", "target")  # the ways to tell flows apart
+TABLE_FLOWS = 40  # the most flows in a table
+PICTURE_FLOWS = 8  # the most flows in a picture
+MOST_SEED = 10**6
+MOST_DIGITS = 20  # the kit reads no longer number, and Python refuses numbers of thousands of digits
 
 
 def is_number(text: str) -> bool:
@@ -30,7 +32,7 @@ def is_number(text: str) -> bool:
 
 
 def bounded(low: int, high: int) -> Callable[[str], int]:
-    """Returns argparse's reader of a number within bounds."""
+    """Returns a function with which argparse reads a number within bounds."""
 
     def number(text: str) -> int:
         if not (is_number(text) and low <= int(text) <= high):
@@ -41,42 +43,49 @@ def bounded(low: int, high: int) -> Callable[[str], int]:
 
 
 def seeds(text: str) -> list[int]:
-    """Returns the seeds in `7`, `1-5` or a list of them. ArgumentTypeError: there are none."""
-    pairs = [part.partition("-")[::2] for part in text.split(",")]
-    if not all(is_number(low) and is_number(high or low) and int(low) <= int(high or low) <= 10**6 for low, high in pairs):
-        figures = "-".join(re.findall("[0-9]+", text)[:2])
-        raise argparse.ArgumentTypeError(f"{text!r}: no seeds up to 1000000; write {figures if '-' in figures else '1-100'}")
-    return [seed for low, high in pairs for seed in range(int(low), int(high or low) + 1)]
+    """Returns the seeds in a text such as `7`, `1-5` or `1-5,7`. ArgumentTypeError: the form is wrong, or a seed too large."""
+    result = list[int]()
+    for part in text.split(","):
+        low, _, high = part.partition("-")
+        high = high or low
+        if not (is_number(low) and is_number(high) and int(low) <= int(high) <= MOST_SEED):
+            numbers = re.findall("[0-9]+", text)[:2]
+            example = "-".join(numbers) if len(numbers) == 2 else "1-100"
+            raise argparse.ArgumentTypeError(f"{text!r}: no seeds up to {MOST_SEED}; write {example}")
+        result.extend(range(int(low), int(high) + 1))
+    return result
 
 
 def file_of(*formats: Format) -> Callable[[str], str]:
-    """Returns argparse's reader for a file name in one of these formats."""
+    """Returns a function with which argparse reads a file name in one of these formats."""
 
     def name(text: str) -> str:
         if not text.lower().endswith(endings):
-            table = ("--csv " if text.endswith(".csv") else "") + f"> {shlex.quote(text)}"
-            also = f"; in place of -o write {table}" if text.endswith((".csv", ".txt")) else ""
-            raise argparse.ArgumentTypeError(f"{text!r} doesn't end in {', '.join(endings)}{also}")
+            advice = ""
+            if text.endswith((".csv", ".txt")):
+                option = "--csv " if text.endswith(".csv") else ""
+                advice = f"; in place of -o write {option}> {shlex.quote(text)}"
+            raise argparse.ArgumentTypeError(f"{text!r} doesn't end in {', '.join(endings)}{advice}")
         return text
 
-    endings = tuple(one.value for one in formats)
+    endings = tuple(output_format.value for output_format in formats)
     return name
 
 
 def add_source(
-    line: argparse.ArgumentParser, form: str = "(HISTORY | PACKETS REPORT)", words: str = "SOURCE", told: str = SOURCE
+    parser: argparse.ArgumentParser, form: str = "(HISTORY | PACKETS REPORT)", words: str = "SOURCE", told: str = SOURCE
 ) -> None:
-    """Adds the inputs of tables, pictures and paragraphs, with their usage."""
-    line.usage = f"{line.prog} [OPTION ..] {form}"
-    line.add_argument("source", nargs="+", metavar=words, help=told)
-    line.add_argument("--config", metavar="FILE", help="the configuration of the packet file's replay; a history has its own")
+    """Adds the arguments for the inputs of tables, pictures and paragraphs, and the command's usage, which ends in `form`."""
+    parser.usage = f"{parser.prog} [OPTION ..] {form}"
+    parser.add_argument("source", nargs="+", metavar=words, help=told)
+    parser.add_argument("--config", metavar="FILE", help="the configuration of the packet file's replay; a history has its own")
 
 
-def add_flows(line: argparse.ArgumentParser, most: int, default: Optional[int], text: str) -> None:
-    """Adds the options that group flows and set the number of groups."""
+def add_flows(parser: argparse.ArgumentParser, most: int, default: Optional[int], text: str) -> None:
+    """Adds the options that group packets into flows, and limit the number of flows; `text` describes the default limit."""
     kinds = "what a flow is: packets of a five-tuple (the default), a flow of dummynet, or all packets to a pipe or queue"
-    add(line, "--by", kinds, choices=WAYS, default="tuple")
-    add(line, "--top N", f"the N largest flows, the rest as one (default: {text})", type=bounded(1, most), default=default)
+    add(parser, "--by", kinds, choices=WAYS, default="tuple")
+    add(parser, "--top N", f"the N largest flows, the rest as one (default: {text})", type=bounded(1, most), default=default)
 
 
 class LookOptions(SimpleNamespace):
@@ -99,11 +108,11 @@ class LookOptions(SimpleNamespace):
 
     @property
     def outputs(self) -> list[str]:
-        """The files that are written."""
-        return [*self.o, *([self.json] if self.json else [])]
+        """Returns the names of all files to write."""
+        return [*self.o, self.json] if self.json else self.o
 
     def files(self, *formats: Format) -> list[str]:
-        """Returns the files of -o in some formats."""
+        """Returns the file names from -o in these formats."""
         from hinge.outputs import format_of
 
         return [name for name in self.o if format_of(name) in formats]

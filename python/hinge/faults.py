@@ -1,4 +1,4 @@
-"""Faults that are chosen, on the links of hingetulip.aio. Hypothesis draws them, and shrinks those of a test that fails:
+"""Chosen faults on the links of hingetulip.aio. Hypothesis can draw the faults, and shrinks the faults of a failed test:
 
     @given(some_faults("client > server", "server > client"))
     def test_it(faults):
@@ -21,11 +21,11 @@ if TYPE_CHECKING:
     from hingetulip.aio import Disturbance
 
 T = TypeVar("T")
-DELAYS = (5, 20, 50, 100, 300, 1000)  # ms, of packets that hypothesis draws as late
-LASTING = (0.2, 1.0, 3.0, 10.0)  # s, of acts that it draws
-MOST_TRAINS = 3
-MOST_OF_TRAIN = 8
-MOST_APART = 12
+DELAYS = (5, 20, 50, 100, 300, 1000)  # the delays in ms that hypothesis draws for late packets
+LASTING = (0.2, 1.0, 3.0, 10.0)  # the lengths in s that hypothesis draws for acts
+MOST_TRAINS = 3  # a train is a row of packets at equal distances with the same fault
+MOST_OF_TRAIN = 8  # packets
+MOST_APART = 12  # packets from a train's packet to its next one
 MOST_ACTS = 2
 
 
@@ -41,6 +41,7 @@ class FaultyNetwork(Network):
             self.loop.call_at(act.moment, self._act, act)
 
     def _act(self, act: Act) -> None:
+        """Does an act now, and keeps the disturbance, or the reason for a refusal."""
         if not self.closing:
             try:
                 self.acted[act] = self.act(act)
@@ -49,9 +50,9 @@ class FaultyNetwork(Network):
                 self.refused_acts[act] = str(error)
 
     def act(self, act: Act) -> Disturbance:
-        """Does an act now. ValueError: there is no such host or link."""
-        do = {CUT: self.cut, HOLD: self.hold, CRASH: self.crash, SKEW: self.skew}[act.kind]
-        return do(act.of, act.seconds)
+        """Does an act now, and returns its disturbance. ValueError: there is no such host or link."""
+        disturb = {CUT: self.cut, HOLD: self.hold, CRASH: self.crash, SKEW: self.skew}[act.kind]
+        return disturb(act.of, act.seconds)
 
     def packets_of(self, name: str, kind: str) -> dict[int, int]:
         """Returns a link's packets with faults of this kind, with their delays in ms."""
@@ -59,38 +60,42 @@ class FaultyNetwork(Network):
         return {fault.packet: fault.ms for fault in faults if fault.link == name and fault.kind == kind}
 
     def link(self, near: Host, far: Host, options: Optional[str] = None, **more: Any) -> Link:
-        if self.chosen is not None:
-            name = f"{getattr(near, 'name', near)} > {getattr(far, 'name', far)}"
-            more.update(loss=Listed(self.packets_of(name, IS_LOST)))
+        if self.chosen is None:
+            return super().link(near, far, options, **more)
+        name = f"{getattr(near, 'name', near)} > {getattr(far, 'name', far)}"
+        more.update(loss=Listed(self.packets_of(name, IS_LOST)))
         link = super().link(near, far, options, **more)
-        if self.chosen is not None and not float(link.options.settings["plr"]):  # under which no word loses a packet
+        if not float(link.options.settings["plr"]):  # at the loss rate 0 no word loses a packet
             link.change(f"{link.options.without('plr')} plr {BY_MODEL}")
         return link
 
     def drawn_of(self, link: Link) -> tuple[Optional[LateOf], Optional[IsTwice]]:
         if self.chosen is None:
             return super().drawn_of(link)
-        late, twice = (self.packets_of(link.name, kind) for kind in (IS_LATE, IS_TWICE))
-        return (lambda number: late.get(number, 0)) if late else None, twice.__contains__ if twice else None
+        late = self.packets_of(link.name, IS_LATE)
+        twice = self.packets_of(link.name, IS_TWICE)
+        delay_of: Optional[LateOf] = (lambda number: late.get(number, 0)) if late else None
+        return delay_of, twice.__contains__ if twice else None
 
     def faults_met(self) -> list[Either]:
-        """Returns as faults what happened to packets: those lost, then those doubled, then those late."""
-        faults = [
-            Fault(link.name, number, kind, link.late.get(number, 0) * (kind == IS_LATE)) for link, kind, number in self.happened
-        ]
-        return [*(it for it in faults if it.kind != IS_LATE), *sorted(it for it in faults if it.kind == IS_LATE)]
+        """Returns the faults that happened to packets: losses and copies in order of time, then delays by link and packet."""
+        faults = [Fault(link.name, number, kind) for link, kind, number in self.happened if kind != IS_LATE]
+        late = [Fault(link.name, number, kind, link.late.get(number, 0)) for link, kind, number in self.happened if kind == IS_LATE]
+        return [*faults, *sorted(late)]
 
     def unmet(self) -> Faults:
-        """Returns the faults whose packets never arrived, and those without effect."""
+        """Returns the faults whose packets never arrived, and the acts that weren't done or did nothing."""
         faults = Faults() if self.chosen is None else self.chosen
-        came = {it.name: it.came for it in self.links.values()}
-        packets = (it for it in faults.packets if came.get(it.link, 0) < it.packet)
-        return Faults(*packets, *(it for it in faults.acts if it not in self.acted or not self.acted[it].met))
+        counts = {link.name: link.came for link in self.links.values()}
+        packets = [fault for fault in faults.packets if counts.get(fault.link, 0) < fault.packet]
+        acts = [act for act in faults.acts if act not in self.acted or not self.acted[act].met]
+        return Faults(*packets, *acts)
 
     def unmet_faults(self) -> list[str]:
-        """Returns the faults of missing links, and listed faults whose packets never came."""
+        """Returns a message for each fault whose link is missing and each refused act. Unless the faults are drawn, adds a message
+        for each fault whose packet never arrived, and each act after the run's end."""
         lines = super().unmet_faults()
-        names = [it.name for it in self.links.values()]
+        names = [link.name for link in self.links.values()]
         is_drawn = isinstance(self.chosen, Drawn)
         unmet = self.unmet()
         for fault in unmet.packets:
@@ -99,8 +104,10 @@ class FaultyNetwork(Network):
             elif not is_drawn:
                 lines.append(f"{fault}: it came to no packet")
         lines += [f"{act}: {text}" for act, text in self.refused_acts.items()]
-        behind = [act for act in unmet.acts if act not in self.acted and act not in self.refused_acts and not is_drawn]
-        return lines + [f"{act}: the run ended before, at {self.loop.time():.6f} s" for act in behind]
+        if not is_drawn:
+            later = [act for act in unmet.acts if act not in self.acted and act not in self.refused_acts]
+            lines += [f"{act}: the run ended before, at {self.loop.time():.6f} s" for act in later]
+        return lines
 
 
 def run(main: Coroutine[Any, Any, T], faults: Iterable[Either], *, seed: int = 1, timeout: Optional[float] = None) -> T:
@@ -132,7 +139,7 @@ def some_faults(*links: str, packets: int = 60, hosts: Sequence[str] = (), secon
         strategies.lists(strategies.sampled_from((False, True, True, True)), min_size=1, max_size=MOST_OF_TRAIN),
     )
     several = strategies.lists(trains, max_size=MOST_TRAINS)
-    of_packets = several.map(lambda them: Drawn(*sorted({fault for one in them for fault in one})))
+    of_packets = several.map(lambda trains: Drawn(*sorted({fault for train in trains for fault in train})))
     if not seconds:
         return of_packets
     targets = [(kind, link) for link in links for kind in (CUT, HOLD)] + [(kind, host) for host in hosts for kind in ACTS]

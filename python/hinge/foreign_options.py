@@ -1,4 +1,5 @@
-"""The other tools' options that `hinge run` refuses by name. They are separate from their answers, since a help must be fast."""
+"""Other tools' options that `hinge run` refuses by name. `hinge.foreign` contains the other answers, and loads too slowly for a
+help."""
 
 from __future__ import annotations
 
@@ -6,8 +7,8 @@ import re
 
 from hingetulip_words.values import EXTRAS
 
-# Options that people try with `hinge run`, beside those of a link, and what to write, where {0} is the option's value; {time},
-# {number} and {seeds} are that value if it is one, or else an example.
+# Options that people try with `hinge run`, beside a link's options, and what to write: {0} is the option's value, and {time},
+# {number} and {seeds} are this value if its kind fits, or else an example.
 TABLE = """
 --trace = --up-trace {0} --down-trace {0}
 --outage = --timeline FILE with a line `5s outage {time}` in FILE
@@ -44,18 +45,19 @@ KINDS = {"time": (r"\d[\d.]*(ns|us|ms|s|min|h|d)?", "1s"), "number": (r"\d+", "1
 
 
 def one_way(option: str, value: str) -> tuple[list[str], str]:
-    """Returns the option's alternatives for the direction that a value like up:20ms begins with, and the value without the direction."""
+    """Returns the alternatives that replace an option, and the option's value. If the value begins with a direction, as in
+    up:20ms, both are for this direction alone."""
     form = OPTIONS[option][0]
-    (way, colon, rest) = value.partition(":")
+    way, colon, rest = value.partition(":")
     if colon and way in ("up", "down"):
-        form = re.sub(rf"--{'down' if way == 'up' else 'up'}\S+ \S+ ?", "", form).strip()
+        other = "down" if way == "up" else "up"
+        form = re.sub(rf"--{other}\S+ \S+ ?", "", form).strip()
         form = form.replace("--link ", f"--{way} ").replace("s outage ", f"s {way} outage ")
         value = rest
     return form.split(", or "), value
 
 
 def filled(form: str, words: str) -> str:
-    """Returns the form with the value, or with an example where the form wants another kind of value."""
-    return form.format(
-        words, **{kind: words if re.fullmatch(pattern, words) else example for kind, (pattern, example) in KINDS.items()}
-    )
+    """Returns the form with the value, or with an example in each place for another kind of value."""
+    values = {kind: words if re.fullmatch(pattern, words) else example for kind, (pattern, example) in KINDS.items()}
+    return form.format(words, **values)

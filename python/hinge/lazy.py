@@ -11,7 +11,7 @@ from hinge.command import Fault, numpy
 
 
 class Lazy(ModuleType):
-    """numpy before it is loaded, and the module that replaces a missing numpy, if any."""
+    """Loads numpy when a name of numpy is first used; the module `other`, if any, replaces a missing numpy."""
 
     def __init__(self, other: str = "") -> None:
         super().__init__("numpy")
@@ -25,7 +25,7 @@ class Lazy(ModuleType):
                 raise
             module = importlib.import_module(self.other)
         result = getattr(module, name)
-        setattr(self, name, result)  # which isn't asked for again
+        setattr(self, name, result)  # so that the next use doesn't call this method
         return result
 
 
@@ -36,9 +36,9 @@ if TYPE_CHECKING:
 
     Integers = NDArray[np.int64]
     Reals = NDArray[np.float64]
-    Mask = NDArray[np.bool_]  # whether each place is chosen
-    Octets = NDArray[np.uint8]  # of a file
-    Words = NDArray[np.uint64]  # of eight octets
+    Mask = NDArray[np.bool_]  # tells whether each place is chosen
+    Octets = NDArray[np.uint8]  # the octets of a file
+    Words = NDArray[np.uint64]  # words of eight octets
 else:
     np, few = Lazy(), Lazy("hinge.plain")
     Integers = Reals = Mask = Octets = Words = Any

@@ -1,7 +1,7 @@
-"""Loss models, which determine the word for each packet in a direction.
+"""Loss models, which determine each packet's word: the number from 0 to 2^31 - 1 that decides whether a link loses the packet.
 
-A packet is lost if the low 31 bits of its word are below the loss rate of the pipe or queue. Under `plr 0.5` the words LOST and
-KEPT lose exactly the packets that a model chooses. Each direction uses a separate model, so that its words never depend on the
+A packet is lost if its word is below the loss rate of the pipe or queue times 2^31. Under `plr 0.5` the words LOST and KEPT lose
+exactly the packets that a model chooses. Each direction uses a separate model, so that its words never depend on the
 other direction.
 
     words = GilbertElliott(to_bad=0.01, to_good=0.3, seed=7, direction=1)
@@ -20,9 +20,10 @@ from hinge.captures.random_words import word
 from hinge.run.words import WAYS, Wrong
 from hingetulip_words.values import decimal
 
-LOST, KEPT = 0, (1 << 31) - 1
-PARTS = 1 << 31  # of a rate, as the program has it
-MOST_LISTED = 10**6  # packets of a range
+LOST = 0  # the word that each loss rate above 0 loses
+KEPT = (1 << 31) - 1  # the word that only the loss rate 1 loses
+PARTS = 1 << 31  # the program keeps a rate as a number of these parts
+MOST_LISTED = 10**6  # the longest range of packets
 Rate = Union[float, Fraction]
 
 
@@ -63,7 +64,7 @@ class GilbertElliott:
     to_good: Rate
     in_bad: Rate = 1
     in_good: Rate = 0
-    # Without them a model takes those of the link that has it, and 1 where it has no link.
+    # None stands for the seed and the direction of the model's link, or for 1 without a link.
     seed: Optional[int] = None
     direction: Optional[int] = None
     is_bad: bool = field(default=False, init=False)
@@ -75,12 +76,12 @@ class GilbertElliott:
 
     def bind(self, seed: int, direction: int) -> None:
         """Sets the seed and direction from the model's link, unless the model sets them."""
-        own = (seed if self.seed is None else self.seed, direction if self.direction is None else self.direction)
-        self.random = Bernoulli(*own)
+        self.random = random_words(self, seed, direction)
 
     def next(self) -> int:
         is_lost = self.random.next() < self.losses[self.is_bad]
-        self.is_bad ^= self.random.next() < self.changes[self.is_bad]
+        if self.random.next() < self.changes[self.is_bad]:
+            self.is_bad = not self.is_bad
         return LOST if is_lost else KEPT
 
 
@@ -94,8 +95,8 @@ class BurstsByTime:
     seed: Optional[int] = None
     direction: Optional[int] = None
     clock: Optional[Callable[[], float]] = None
-    is_bad: bool = field(default=True, init=False)  # before the beginning
-    until: float = field(default=0, init=False)
+    is_bad: bool = field(default=True, init=False)  # the state up to `until`; the first packet changes it to good
+    until: float = field(default=0, init=False)  # the moment at which the state ends
 
     def __post_init__(self) -> None:
         if not (self.good > 0 and self.bad > 0):
@@ -103,23 +104,32 @@ class BurstsByTime:
         self.bind(1, 1)
 
     def bind(self, seed: int, direction: int) -> None:
-        """Does the same as that of GilbertElliott."""
-        own = (seed if self.seed is None else self.seed, direction if self.direction is None else self.direction)
-        self.random = Bernoulli(*own)
+        """Sets the seed and direction from the model's link, unless the model sets them."""
+        self.random = random_words(self, seed, direction)
 
     def next(self) -> int:
+        """Returns LOST during a burst, and KEPT otherwise. TypeError: the model lacks a clock."""
         if self.clock is None:
             raise TypeError("bursts by time are of a link that has a clock, as those of hingetulip.aio")
         now = self.clock()
         while self.until <= now:
             self.is_bad = not self.is_bad
-            self.until -= math.log1p(-self.random.next() / PARTS) * (self.bad if self.is_bad else self.good)
+            average = self.bad if self.is_bad else self.good
+            self.until -= math.log1p(-self.random.next() / PARTS) * average
         return LOST if self.is_bad else KEPT
+
+
+def random_words(model: Union[GilbertElliott, BurstsByTime], seed: int, direction: int) -> Bernoulli:
+    """Returns a model's random words, with the link's seed and direction unless the model sets them."""
+    return Bernoulli(
+        seed if model.seed is None else model.seed,
+        direction if model.direction is None else model.direction,
+    )
 
 
 @dataclass
 class Chosen:
-    """The packets that a function says, by their numbers from 1."""
+    """Losses of the packets that a function chooses by their numbers, which count from 1."""
 
     is_lost: Callable[[int], bool]
     number: int = field(default=0, init=False)
@@ -130,7 +140,7 @@ class Chosen:
 
 
 class Listed(Chosen):
-    """The packets with these numbers, from 1."""
+    """Losses of the packets with these numbers, which count from 1."""
 
     def __init__(self, numbers: Collection[int]) -> None:
         super().__init__(frozenset(numbers).__contains__)
@@ -140,14 +150,21 @@ def read_numbers(text: str) -> list[int]:
     """Returns the numbers in a text such as `3,17-20`. ValueError: a part is neither a number from 1 nor a range."""
     numbers: list[int] = []
     for part in text.split(","):
-        ends = re.fullmatch(r"(\d{1,9})(?:-(\d{1,9}))?", part)
-        low, high = (int(ends[1]), int(ends[2] or ends[1])) if ends else (0, 0)
-        if not 1 <= low <= high < low + MOST_LISTED:
-            raise ValueError(f"{part!r} isn't the number of a packet or a range (examples: 3, 17-20)")
-        numbers.extend(range(low, high + 1))
+        numbers.extend(read_range(part))
     if len(set(numbers)) < len(numbers):
         raise ValueError(f"{text} names a packet twice")
     return numbers
+
+
+def read_range(text: str) -> range:
+    """Returns the numbers in a text such as `3` or `17-20`. ValueError: the text has another form, or the range is too long."""
+    match = re.fullmatch(r"(\d{1,9})(?:-(\d{1,9}))?", text)
+    if match is not None:
+        low = int(match[1])
+        high = int(match[2] or match[1])
+        if 1 <= low <= high < low + MOST_LISTED:
+            return range(low, high + 1)
+    raise ValueError(f"{text!r} isn't the number of a packet or a range (examples: 3, 17-20)")
 
 
 def read_rates(text: str) -> list[Fraction]:
@@ -161,7 +178,7 @@ def read_rates(text: str) -> list[Fraction]:
     return rates + [Fraction(1), Fraction(0)][len(rates) - 2 :]
 
 
-Maker = Callable[[int, int], Words]  # of a seed and a direction
+Maker = Callable[[int, int], Words]  # creates a model from a seed and a direction
 
 
 def read_model(text: str) -> Maker:
@@ -178,42 +195,51 @@ def read_model(text: str) -> Maker:
 
 
 def gilbert(text: str) -> str:
-    """Reads `P,R[,B[,G]]`: the chances to turn bad and to turn good, and the loss rates in the bad and the good state; returns
-    the plan's numbers."""
+    """Returns a Gilbert-Elliott model's numbers for the plan, the text with instructions to hinge-link. In the form `P,R[,B[,G]]`
+    P and R are the chances to turn bad and to turn good, and B and G the loss rates in the two states."""
     to_bad, to_good, in_bad, in_good = (parts(rate) for rate in read_rates(text))
     return f"{to_bad} {to_good} {in_good} {in_bad}"
 
 
 def listed(text: str) -> str:
-    """Reads packet numbers such as `3,10-20`, counted from 1; returns the plan's numbers."""
+    """Returns the plan's numbers for packets such as `3,10-20`, which count from 1."""
     return " ".join(map(str, sorted(read_numbers(text))))
 
 
 MODELS = {"gilbert": gilbert, "list": listed}
+FORMS = "none of gilbert:P,R[,B[,G]] and list:N,N-M (examples: gilbert:0.01,0.3 and list:3,17-20)"
 
 
 def rate_of(text: str) -> str:
-    """Returns the percentage if the text is a loss rate, which belongs into the link."""
-    rate = re.fullmatch(r"(\d+(?:\.\d+)?|\.\d+)(%?)", text)
-    return decimal(Fraction(rate[1]) * (1 if rate[2] or Fraction(rate[1]) > 1 else 100)) + "%" if rate else ""
+    """Returns a loss rate as a percentage, such as `1%`; an empty text if the text is no rate."""
+    match = re.fullmatch(r"(\d+(?:\.\d+)?|\.\d+)(%?)", text)
+    if match is None:
+        return ""
+    rate = Fraction(match[1])
+    is_percentage = match[2] or rate > 1
+    return decimal(rate if is_percentage else rate * 100) + "%"
 
 
 def loss_lines(text: str, link: int = 0) -> dict[int, str]:
-    """Returns a line of the plan for each way in the text: `[up:|down:]gilbert:P,R[,B[,G]]` or `[up:|down:]list:N,N-M`. Wrong: the
-    text has another form."""
-    first, _, more = text.partition(":")
-    ways, model = ([WAYS[first]], more) if first in WAYS else ([0, 1], text)
+    """Returns the plan's lines for a link's loss model, by the way's number (a way is one direction of a link). Wrong: the text
+    isn't like `[up:|down:]gilbert:P,R[,B[,G]]` or `[up:|down:]list:N,N-M`."""
+    ways = [0, 1]
+    model = text
+    first, _, rest = text.partition(":")
+    if first in WAYS:
+        ways = [WAYS[first]]
+        model = rest
     kind, _, value = model.partition(":")
     try:
         if kind not in MODELS:
             raise ValueError
-        return {way: f"{kind} {way} {MODELS[kind](value)}" for way in (2 * link + way for way in ways)}
+        numbers = MODELS[kind](value)
+        return {2 * link + way: f"{kind} {2 * link + way} {numbers}" for way in ways}
     except ValueError as wrong:
-        why = (
-            str(wrong)
-            if "twice" in str(wrong)
-            else f"none of gilbert:P,R[,B[,G]] and list:N,N-M (examples: gilbert:0.01,0.3 and list:3,17-20){f'; write a rate in the link: 20ms loss {rate_of(text)}' * bool(rate_of(text))}"
-        )
+        why = str(wrong) if "twice" in str(wrong) else FORMS
+        rate = rate_of(text)
+        if rate:
+            why += f"; write a rate in the link: 20ms loss {rate}"
         raise Wrong(f"--loss {text}: {why}") from None
 
 

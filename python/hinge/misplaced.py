@@ -17,11 +17,11 @@ from hinge.command import Fault
 from hingetulip_words.link import corrected
 from hingetulip_words.presets import near
 
-FRONT = 4096  # bytes of a file, which tell its kind
-MOST_ROWS = 20  # of a line to type
+FRONT = 4096  # the first bytes of a file, which tell its kind
+MOST_ROWS = 20  # the most rows in a line to type
 OF_CAPTURES = rb"\xd4\xc3\xb2\xa1|\xa1\xb2\xc3\xd4|\x4d\x3c\xb2\xa1|\xa1\xb2\x3c\x4d|\x0a\x0d\x0d\x0a"
-# Kinds of files by their fronts, after blank lines and comments, of which the first pattern that matches counts; what a file of the
-# kind is called, and the line to type, in which {0} is the file, {1} its name without an ending.
+# Each row: a kind of files, the pattern of their beginning after blank lines and comments, what a file of the kind is called, and the
+# line to type, in which {0} is the file, and {1} the file's name without its ending. The first pattern that matches counts.
 TABLE = (
     ("capture", OF_CAPTURES, "a capture", "hinge packets {0} -o packets.csv"),
     ("picture", rb"\x89PNG|%PDF|<\?xml|<svg|(?i:<!doctype html|<html)", "a picture or page, which hinge only writes", ""),
@@ -47,8 +47,8 @@ TABLE = (
 FRONTS = [(kind, front) for kind, front, _, _ in TABLE if front]
 KINDS = {kind: words for kind, _, *words in TABLE}
 OF_NETS = ("net", "up", "search")
-RUNNING = {"change": " WORDS", "status": "", "exec": " HOST -- COMMAND", "down": ""}  # behind a name
-OF_COMMAND = {  # in place of the line above
+RUNNING = {"change": " WORDS", "status": "", "exec": " HOST -- COMMAND", "down": ""}  # commands, and their words behind a name
+OF_COMMAND = {  # the line to type in place of TABLE's, by the command and the kind
     **{f"{command} net": f"hinge up {{0}}, and hinge {command} {{1}}{words}" for command, words in RUNNING.items()},
     "look config": "hinge look PACKETS REPORT --config {0}",
     "look net": "hinge net {0} --transcripts FOLDER, and hinge look FOLDER",
@@ -62,7 +62,7 @@ OF_COMMAND = {  # in place of the line above
     **dict.fromkeys(("dummynet config", "audit config"), "dummynet replay {0} PACKETS"),
     **dict.fromkeys(("dummynet history", "replay history"), "dummynet audit {0}"),
 }
-# The kinds that a command takes, for its first file, its second, and those behind.
+# The kinds of files that a command reads: for its first file, its second, and all others.
 TAKES = {
     "look": "history session packets,report summary,report",
     "look --diff": "history",
@@ -82,8 +82,8 @@ OF_OPTIONS = {"--like": "summary failure failed-run", **{f"--{kind}": kind for k
 OF_OPTIONS |= {"--up-trace": "trace", "--down-trace": "trace"}
 OUTPUTS = {"look": (".png", ".svg", ".pdf", ".html"), "packets": (".csv",)}
 WRITTEN = ("-o", "--json", "--transcript", "--transcripts", "--logs", "--runs", "--index", "--name", "--control")
-# Options and words of older versions, and those that people try: the commands, and words with the line, in which {0} is the word without
-# its dashes, and {1} its value. `*` is any first word.
+# Options and words of older versions, and others that people try. Each row: the commands, and words with the line to type, in which {0}
+# is the word without its dashes, and {1} the word's value. `*` stands for any first word.
 MEANT_TABLE = """
 why look: --why --row --packet --packets = hinge why ROW HISTORY
 look: --audit = dummynet audit HISTORY; --compare = --diff HISTORY HISTORY; --html --png --svg --pdf = -o FILE.{0};
@@ -113,16 +113,24 @@ doctor: * = hinge doctor, which tries all that hinge needs
 kernel: * = hinge kernel, which builds one where there is none
 docs: --list -l --all = hinge docs
 """
-MEANT = dict[str, str]()
-for row in MEANT_TABLE.replace("\n ", " ").strip().splitlines():
-    commands, _, entries = row.partition(": ")
-    for entry in entries.split("; "):
-        names, _, line = entry.partition(" = ")
-        MEANT.update({f"{command} {word}": line for command in commands.split() for word in names.split()})
+
+
+def lines_of_table() -> dict[str, str]:
+    """Returns the lines to type in MEANT_TABLE, by a command and a word."""
+    lines = dict[str, str]()
+    for row in MEANT_TABLE.replace("\n ", " ").strip().splitlines():
+        commands, _, entries = row.partition(": ")
+        for words, line in (entry.split(" = ", 1) for entry in entries.split("; ")):
+            lines.update((f"{command} {word}", line) for command in commands.split() for word in words.split())
+    return lines
+
+
+MEANT = lines_of_table()
 
 
 def kind_of(path: str) -> str:
-    """Returns the kind of a file or folder from its beginning; an empty text if unknown. OSError, Fault: it can't be read."""
+    """Returns the kind of a file, folder or socket; an empty text if unknown. A file's beginning shows its kind. OSError, Fault:
+    the file can't be read."""
     mode = os.stat(path).st_mode
     if stat.S_ISDIR(mode):
         return "session" if os.path.exists(os.path.join(path, "net.history")) else "folder"
@@ -133,6 +141,7 @@ def kind_of(path: str) -> str:
 
 
 def kind_of_text(data: bytes) -> str:
+    """Returns a file's kind from the first bytes, without blank lines and comments; an empty text if unknown."""
     text = data[:FRONT].removeprefix(b"\xef\xbb\xbf")
     if not text.startswith((b"#!", b"\x0a\x0d")):
         text = re.sub(rb"\A(?:[ \t\r]*(?:#[^\n]*)?\n)+", b"", text).lstrip(b" \t")
@@ -140,73 +149,96 @@ def kind_of_text(data: bytes) -> str:
 
 
 def line_for(command: str, kind: str, path: str) -> str:
-    """Returns what a file is, and the line to type."""
-    what, form = KINDS[kind]
+    """Returns a noun for this kind, and the line to type with the file, unless the kind lacks such a line."""
+    noun, form = KINDS[kind]
     form = OF_COMMAND.get(f"{command} {kind}", form)
-    name = shlex.quote(path if kind != "program" or "/" in path else f"./{path}")
-    line = form.format(name, shlex.quote(os.path.splitext(os.path.basename(path))[0]))
-    return what + (f"; write {line}" if line else "")
+    if not form:
+        return noun
+    name = f"./{path}" if kind == "program" and "/" not in path else path
+    stem = os.path.splitext(os.path.basename(path))[0]
+    return f"{noun}; write {form.format(shlex.quote(name), shlex.quote(stem))}"
 
 
 def filled(line: str, words: Sequence[str]) -> str:
-    """Returns a line to type with the files among these words in the place of their kinds, as HISTORY, and numbers for ROW."""
+    """Returns a line to type, in which these words' files replace their kinds, such as HISTORY, and numbers replace ROW."""
     for word in words:
         with suppress(ArgumentTypeError, OSError, Fault):
-            name = kind_of(word).upper() if os.path.exists(word) else "ROW"
-            text = (
-                shlex.quote(word) if name != "ROW" else " ".join(map(str, seeds(word.lstrip("#").replace("..", "-"))[:MOST_ROWS]))
-            )
-            line = re.sub(rf"\b{name}\b", lambda _: text, line, count=1) if name else line
+            if os.path.exists(word):
+                name, text = kind_of(word).upper(), shlex.quote(word)
+            else:
+                rows = seeds(word.lstrip("#").replace("..", "-"))  # a word such as #3 or 1..5
+                name, text = "ROW", " ".join(map(str, rows[:MOST_ROWS]))
+            if name:
+                line = re.sub(rf"\b{name}\b", lambda _: text, line, count=1)
     return line
 
 
 def files_in(command: str, words: Sequence[str]) -> Iterator[tuple[str, str]]:
-    """Yields the existing files in a command line, each with the kinds that belong there."""
+    """Yields the existing files in a command line, each with the kinds of files that belong in its place."""
     option = next((option for option in ("--diff", "--model") if option in words), "")
     places = TAKES.get(f"{command} {option}".rstrip(), "").split(",")
-    before = ""
-    for word in words:
-        if word == "--" or command in ("run", "udp") and not (before.startswith("-") or word.startswith("-")):
+    for before, word in zip(["", *words], words):
+        begins_command = command in ("run", "udp") and not before.startswith("-") and not word.startswith("-")
+        if word == "--" or begins_command:
             return
-        if os.path.exists(word) and before not in WRITTEN:
-            is_value = before in OF_OPTIONS
-            yield word, OF_OPTIONS[before] if is_value else places[0]
-            if not is_value and command in ONE_FILE:
-                return
-            places = places[1:] if not is_value and places[1:] else places
-        before = word
+        if not os.path.exists(word) or before in WRITTEN:
+            continue
+        if before in OF_OPTIONS:
+            yield word, OF_OPTIONS[before]
+            continue
+        yield word, places[0]
+        if command in ONE_FILE:
+            return
+        places = places[1:] or places
 
 
 def in_place(command: str, before: str, word: str) -> str:
-    """Returns what to write for a word that isn't a file, where one belongs; an empty text if unknown."""
-    link = corrected(word)
-    kind = kind_of_text(word.encode(errors="replace"))
+    """Returns the replacement for a word that isn't a file but occurs where a file belongs, after the word `before`; an empty text
+    if unknown."""
     if before in OF_OPTIONS:
-        lines = {"--config": (f"--line {shlex.quote(word)}" if kind == "config" else "")}
-        lines["--faults"] = "--faults FILE, with a line `client > server packet 3 lost` in FILE" if " " in word else ""
-        lines |= {f"--{way}-trace": (f"--{way} {shlex.quote(link or '')}" if link else "") for way in ("up", "down")}
-        return lines.get(before, "")
+        return in_place_of_value(before, word)
     if command in OF_NETS and before == "" and not word.startswith("-") and (command, word) != ("search", "run"):
-        beside = f"{word}.net"
-        is_no_file = " " in word or "." not in word
-        return f"hinge {command} {shlex.quote(beside)}" if os.path.exists(beside) else A_NET * is_no_file
+        return in_place_of_net(command, word)
+    link = corrected(word)
     if command == "change" and before == "" and link:
         return f"hinge change NAME {shlex.quote(link)}"
-    if command == "search" and re.fullmatch(r"\d+[-,]\d+", word) and not before.startswith("-"):
+    if before.startswith("-"):
+        return ""
+    if command == "search" and re.fullmatch(r"\d+[-,]\d+", word):
         return f"--seeds {word}"
-    if command == "packets" and " " in word and not before.startswith("-"):
+    if command == "packets" and " " in word:
         return MEANT["packets --filter"]
-    if command == "look" and word.isdecimal() and not before.startswith("-"):
+    if command == "look" and word.isdecimal():
         return "hinge why ROW HISTORY"
-    is_output = before != "" and not before.startswith("-") and word.lower().endswith(OUTPUTS.get(command, ("\0",)))
+    is_output = before != "" and word.lower().endswith(OUTPUTS.get(command, ("\0",)))
     return f"-o {shlex.quote(word)}" if is_output else ""
 
 
+def in_place_of_value(option: str, word: str) -> str:
+    """Returns the option to write for a value that isn't a file, such as link words after --up-trace; an empty text if unknown."""
+    if option == "--config" and kind_of_text(word.encode(errors="replace")) == "config":
+        return f"--line {shlex.quote(word)}"
+    if option == "--faults" and " " in word:
+        return "--faults FILE, with a line `client > server packet 3 lost` in FILE"
+    link = corrected(word) if option in ("--up-trace", "--down-trace") else None
+    return f"{option.removesuffix('-trace')} {shlex.quote(link)}" if link else ""
+
+
+def in_place_of_net(command: str, word: str) -> str:
+    """Returns the line with the file of a net for a word that isn't a file: the word's file NAME.net, or a small net to try; an empty
+    text if the word looks like a missing file."""
+    file = f"{word}.net"
+    if os.path.exists(file):
+        return f"hinge {command} {shlex.quote(file)}"
+    return A_NET if " " in word or "." not in word else ""
+
+
 def line_for_word(command: str, own: Sequence[str]) -> str:
-    """Returns the right line for a first word or option that people try, or an empty text."""
+    """Returns the line to type for a first word or an option that people try; an empty text if unknown."""
     for word, following in zip(own, [*own[1:], "-"]):
         name, _, value = word.partition("=")
-        name = name if f"{command} {name}" in MEANT else "" if name.startswith("--") else name[:2]
+        if f"{command} {name}" not in MEANT:
+            name = "" if name.startswith("--") else name[:2]  # an option of one letter, with its value
         form = MEANT.get(f"{command} {name}")
         if form and (word == own[0] or word.startswith("-")):
             value = value or word[len(name) :] or following.removeprefix("-") or "N"
@@ -214,30 +246,52 @@ def line_for_word(command: str, own: Sequence[str]) -> str:
     return ""
 
 
+def in_place_of_words(command: str, words: Sequence[str], refusal: str) -> str:
+    """Returns the replacement for a command's first misplaced word; an empty text if all words are in their places."""
+    if command == "try" and words and near(words[0]):
+        return f"--preset {near(words[0])}"
+    line = line_for_word(command, words)
+    if line:
+        return line
+    is_unknown = "unrecognized" in refusal
+    if is_unknown and f"{command} *" in MEANT:
+        return MEANT[f"{command} *"]
+    if is_unknown and "--server" in words:
+        server = [*takewhile(lambda word: not word.startswith("--"), words[words.index("--server") + 1 :])]
+        if len(server) > 1:
+            return f"--server {shlex.quote(' '.join(server))}"
+    for before, word in zip(["", *words], words):
+        line = "" if os.path.exists(word) else in_place(command, before, word)
+        if line:
+            return filled(line, words)
+    return ""
+
+
 def advised(command: str, words: Sequence[str], refusal: str) -> str:
     """Returns a refusal for a command line, with the line to type if a word belongs elsewhere."""
     own = words[: words.index("--")] if "--" in words else words
-    own = [] if re.search("[:;] write ", refusal) else own  # which says it already
+    if re.search("[:;] write ", refusal):
+        own = []  # the refusal already says what to write
     if command == "search" and "--" in words and "required: FILE" in refusal:
         return f"{refusal}; write hinge search {shlex.join([*own, 'run', *words[len(own) :]])}"
-    if command == "try" and own and (name := near(own[0])):
-        return f"{refusal}; write --preset {name}"
-    if line := line_for_word(command, own) or MEANT.get(f"{command} *", "") * ("unrecognized" in refusal):
+    line = in_place_of_words(command, own, refusal)
+    if line:
         return f"{refusal}; write {line}"
-    server = [*takewhile(lambda word: not word.startswith("--"), own[own.index("--server") + 1 :] if "--server" in own else ())]
-    if server[1:] and "unrecognized" in refusal:
-        return f"{refusal}; write --server {shlex.quote(' '.join(server))}"
-    for before, word in zip(["", *own], own):
-        if not os.path.exists(word) and (line := in_place(command, before, word)):
-            return f"{refusal}; write {filled(line, own)}"
     try:
-        kinds = [(path, kind_of(path), wanted.split()) for path, wanted in files_in(command, words)]
+        text = wrong_file(command, words, refusal)
     except (OSError, Fault):
         return refusal
-    for path, kind, wanted in kinds:
-        is_alone = len(kinds) < 3 and (command, kind) == ("why", "config") or "number of a row" in refusal
-        if kind and wanted and (kind not in wanted or is_alone):
-            line = filled(line_for(command, kind, path), words)
-            is_known = line.partition(";")[0] in refusal or kind == "folder" and "--transcripts" in refusal
-            return refusal if is_known else f"{refusal}; {path} is {line}"
-    return refusal
+    return f"{refusal}; {text}" if text else refusal
+
+
+def wrong_file(command: str, words: Sequence[str], refusal: str) -> str:
+    """Returns the kind of the first misplaced file, and the line to type; an empty text if all files are in their places, or if
+    the refusal says the same. OSError, Fault: a file can't be read."""
+    files = [(path, kind_of(path), kinds.split()) for path, kinds in files_in(command, words)]
+    for path, kind, expected_kinds in files:
+        lacks_others = len(files) < 3 and (command, kind) == ("why", "config") or "number of a row" in refusal
+        if kind and expected_kinds and (kind not in expected_kinds or lacks_others):
+            text = filled(line_for(command, kind, path), words)
+            is_known = text.partition(";")[0] in refusal or kind == "folder" and "--transcripts" in refusal
+            return "" if is_known else f"{path} is {text}"
+    return ""

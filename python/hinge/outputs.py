@@ -1,4 +1,4 @@
-"""The files that a command writes: none is an input, and each is whole or isn't there."""
+"""The files that a command writes. None is also an input, and each is either complete or missing."""
 
 from __future__ import annotations
 
@@ -15,7 +15,7 @@ from hinge.border.scratch import holding
 from hinge.border.terminal import standard_output
 from hinge.command import FULL, WRITING, Fault
 
-COMMAND_LINE = 2
+COMMAND_LINE = 2  # the exit status
 Name = Union[str, Path, None]
 
 
@@ -45,17 +45,18 @@ def format_of(name: str) -> Format:
 
 
 def refuse_inputs(outputs: Iterable[Name], inputs: Iterable[Name]) -> None:
-    """Fault: an output is also an input or another output, under any name. Call this before reading."""
+    """Refuses outputs that are inputs or other outputs, under any name. Fault: there is such an output. Call this before
+    reading."""
     names = {place(name): str(name) for name in inputs if is_file(name)}
-    for name in outputs:
-        if is_file(name):
-            if place(name) in names:
-                raise Fault(f"{name} would be written over {names[place(name)]}: give the output a name of its own", COMMAND_LINE)
-            names[place(name)] = str(name)
+    for name in filter(is_file, outputs):
+        other = names.get(place(name))
+        if other is not None:
+            raise Fault(f"{name} would be written over {other}: give the output a name of its own", COMMAND_LINE)
+        names[place(name)] = str(name)
 
 
 def is_file(name: Name) -> bool:
-    """Returns whether a name refers to a file, rather than a standard stream or a device."""
+    """Returns whether a name refers to a regular file or to no file yet, rather than to a standard stream, a folder or a device."""
     return name not in (None, "-") and (not Path(str(name)).exists() or Path(str(name)).is_file())
 
 
@@ -72,7 +73,8 @@ def is_planted(name: Union[str, Path]) -> bool:
     """Returns whether a name belongs to a third user, in a folder such as /tmp: a link there could lead to any file of this user.
     The kernel refuses these only with the settings protected_symlinks and protected_fifos of proc(5)."""
     try:
-        entry, folder = os.lstat(name), os.stat(os.path.dirname(name) or ".")
+        entry = os.lstat(name)
+        folder = os.stat(os.path.dirname(name) or ".")
     except OSError:
         return False
     is_for_all = folder.st_mode & stat.S_ISVTX and folder.st_mode & stat.S_IWOTH
@@ -81,9 +83,9 @@ def is_planted(name: Union[str, Path]) -> bool:
 
 @contextmanager
 def written(name: Union[str, Path]) -> Iterator[Path]:
-    """Yields a path for writing a file, which gets its name when complete. Before that the file is unnamed if the file system
-    allows that, so that an interrupted process leaves no file. An older file stays until then. PermissionError: the name is
-    planted."""
+    """Yields the path to write to. A regular file gets its name when complete, and an older file stays until then. Before, the new
+    file is unnamed if the file system allows that, so that an interrupted process leaves no file. Devices, FIFOs, and files in a
+    folder that this user can't change are written in place. PermissionError: the name is planted."""
     if is_planted(name):
         raise PermissionError(errno.EACCES, "another user made it, in a folder for all users", str(name))
     if not is_file(name):
@@ -98,17 +100,17 @@ def written(name: Union[str, Path]) -> Iterator[Path]:
     beside = path.with_name(f".{os.getpid()}-{path.name}")
     nameless = unnamed_file(path.parent)
     try:
-        place = beside if nameless is None else Path(f"/proc/{os.getpid()}/fd/{nameless}")
-        yield place
+        new = beside if nameless is None else Path(f"/proc/{os.getpid()}/fd/{nameless}")
+        yield new
         if mode is not None:
-            place.chmod(mode)
+            new.chmod(mode)
         if nameless is None:
             beside.replace(path)
         else:
-            give_name(place, path, beside)
+            give_name(new, path, beside)
     except OSError as error:
         if error.errno in FULL or (error.filename is None and error.errno in WRITING):
-            error.filename = str(name)  # and not the file of which it is a copy
+            error.filename = str(name)  # the user's name, and not that of the new file or of the file that is copied
         raise
     finally:
         if nameless is None:
@@ -141,8 +143,8 @@ def unnamed_file(folder: Path) -> Optional[int]:
 
 
 def give_name(place: Path, path: Path, beside: Path) -> None:
-    """Gives a file its name. The system can do that atomically only for a free name, so a replacement gets another name first, for
-    a moment in which only SIGKILL ends this process."""
+    """Names a complete file. The system can do that atomically only for a free name, so a replacement gets the name `beside` first,
+    for a moment in which only SIGKILL ends this process."""
     with suppress(FileExistsError):
         link(place, path)
         return
@@ -156,7 +158,7 @@ def give_name(place: Path, path: Path, beside: Path) -> None:
 
 
 def link(place: Path, name: Path) -> None:
-    """Links a file to a name. Python follows the name in /proc only if a folder's descriptor is given."""
+    """Links a file to a name. Python follows the file's name in /proc only if the call has a folder's descriptor."""
     with holding(name.parent) as folder:
         os.link(place, name.name, dst_dir_fd=folder, follow_symlinks=True)
 
@@ -173,7 +175,7 @@ def writing(name: Optional[str]) -> Iterator[TextIO]:
 
 def write_json(path: str, record: Mapping[str, object]) -> None:
     """Writes a JSON record, to a file or to standard output."""
-    import json  # which takes longer to load than a help may
+    import json  # a help must not load this slow module
 
     with writing(path) as file:
         json.dump(record, file, indent=1)

@@ -1,4 +1,4 @@
-"""The few functions of numpy that tables and paragraphs call, over lists of Python, for a machine that lacks numpy."""
+"""The few functions of numpy that tables and paragraphs call, written with Python's lists, for machines without numpy."""
 
 from __future__ import annotations
 
@@ -9,7 +9,7 @@ from itertools import accumulate, chain, compress, repeat
 from typing import Any, Callable, Iterable, Iterator, Optional, Sequence
 
 int64 = int
-CODES = {"i1": "b", "i4": "i", "u4": "I", "i8": "q"}  # of numpy's names of numbers
+CODES = {"i1": "b", "i4": "i", "u4": "I", "i8": "q"}  # Python's codes for numpy's types of numbers
 
 
 class Array:
@@ -37,8 +37,9 @@ class Array:
         if not isinstance(key, Array):
             self.items[key] = value
             return
-        for place, one in zip(flatnonzero(key) if is_mask(key) else key, each(value)):
-            self.items[place] = one
+        places = flatnonzero(key) if is_mask(key) else key
+        for place, item in zip(places, each(value)):
+            self.items[place] = item
 
     def __neg__(self) -> Array:
         return Array(map(operator.neg, self))
@@ -69,6 +70,7 @@ class Array:
 
 
 def is_mask(row: Array) -> bool:
+    """Returns whether a row consists of truth values."""
     return len(row) > 0 and isinstance(row.items[0], bool)
 
 
@@ -78,8 +80,12 @@ def each(value: Any) -> Iterable[Any]:
 
 
 def by_places(function: Callable[[Any, Any], Any], swaps: bool = False) -> Callable[[Array, Any], Array]:
+    """Returns a method that applies a function to the two items at each place; `swaps` exchanges the two."""
+
     def method(self: Array, other: Any) -> Array:
-        return Array(map(function, each(other), self) if swaps else map(function, self, each(other)))
+        if swaps:
+            return Array(map(function, each(other), self))
+        return Array(map(function, self, each(other)))
 
     return method
 
@@ -120,7 +126,8 @@ def concatenate(rows: Iterable[Array]) -> Array:
 
 
 def where(choice: Array, one: Any, other: Any) -> Array:
-    return Array(this if is_so else that for is_so, this, that in zip(choice, each(one), each(other)))
+    items = zip(choice, each(one), each(other))
+    return Array(item if is_chosen else other_item for is_chosen, item, other_item in items)
 
 
 def maximum(one: Array, other: Any) -> Array:
@@ -154,7 +161,7 @@ def bincount(row: Array, weights: Optional[Array] = None, minlength: int = 0) ->
 
 
 def partition(row: Array, places: Iterable[int]) -> Array:
-    """Returns the row sorted, so that the items at the places are right, too."""
+    """Returns the sorted row, in which the items at these places are right, too."""
     return Array(sorted(row))
 
 
@@ -169,9 +176,13 @@ def lexsort(keys: Sequence[Array]) -> Array:
 def unique(row: Array, return_inverse: bool = False) -> Any:
     values = sorted(set(row))
     places = {value: place for place, value in enumerate(values)}
-    return (Array(values), Array(map(places.__getitem__, row))) if return_inverse else Array(values)
+    if return_inverse:
+        return Array(values), Array(map(places.__getitem__, row))
+    return Array(values)
 
 
 def searchsorted(row: Array, value: Any, side: str = "left") -> Any:
-    look = bisect_left if side == "left" else bisect_right
-    return Array(look(row.items, one) for one in value) if isinstance(value, Array) else look(row.items, value)
+    search = bisect_left if side == "left" else bisect_right
+    if isinstance(value, Array):
+        return Array(search(row.items, item) for item in value)
+    return search(row.items, value)

@@ -14,13 +14,13 @@ from hinge.command import MISSING, Fault
 
 PACKAGE = Path(__file__).resolve().parent
 REPOSITORY = PACKAGE.parents[1]
-VERDICTS = (0, 1, 3, 4)  # the statuses of dummynet that are of what it reads
+VERDICTS = (0, 1, 3, 4)  # the statuses with which dummynet judges what it reads
 HINGE = (sys.executable, str(PACKAGE / "__main__.py"))
 
 
 def places(name: str, *in_repository: str) -> Iterator[Optional[str]]:
-    """Yields a program's possible locations in order: this package's clone, the package, `bin` beside each enclosing folder, and
-    the path. The version that was installed with the package thus comes first."""
+    """Yields a program's possible locations in order: this package's clone, the package, `bin` in each enclosing folder, and the
+    path. The version that was installed with the package thus precedes other versions on the path."""
     for place in in_repository:
         yield str(REPOSITORY / place)
     yield str(PACKAGE / name)
@@ -30,13 +30,22 @@ def places(name: str, *in_repository: str) -> Iterator[Optional[str]]:
 
 
 def program_named(variable: str, name: str, *in_repository: str) -> str:
-    """Returns the program that a variable names, otherwise the first one found. Fault: there is none."""
+    """Returns the path to a program: the environment variable's value, or the first program in `places`. Fault: there is no
+    program."""
     path = os.environ.get(variable)
-    for place in [path] if path else places(name, *in_repository):
-        if place and os.path.isfile(place) and os.access(place, os.X_OK):
+    if path:
+        if is_program(path):
+            return path
+        raise Fault(f"{variable} names {path}, which isn't a program", MISSING)
+    for place in places(name, *in_repository):
+        if place is not None and is_program(place):
             return place
-    lack = f"there is no program {name}: the variable {variable} can name it"
-    raise Fault(f"{variable} names {path}, which isn't a program" if path else lack, MISSING)
+    raise Fault(f"there is no program {name}: the variable {variable} can name it", MISSING)
+
+
+def is_program(path: str) -> bool:
+    """Returns whether a path names a file that this user can execute."""
+    return os.path.isfile(path) and os.access(path, os.X_OK)
 
 
 def dummynet() -> str:
@@ -45,8 +54,8 @@ def dummynet() -> str:
 
 
 def asked_of_dummynet(*words: str, data: Optional[bytes] = None) -> Answer:
-    """Returns dummynet's answer about configurations, packet files or histories, with its status for an error in them. Fault:
-    dummynet couldn't continue, and says nothing about them."""
+    """Runs dummynet with these words, and with data as standard input; returns the answer, whose status tells an error in a
+    configuration, packet file or history. Fault: dummynet failed for another reason."""
     return asked([dummynet(), *words], data, VERDICTS)
 
 
@@ -67,7 +76,7 @@ def packets() -> str:
 
 
 def in_background(words: Sequence[str], log: Path, *pipes: int) -> "Process[bytes]":
-    """Starts a `hinge` command whose output goes to a log, and which inherits these descriptors; returns its process."""
+    """Starts a `hinge` command with its output in a log; returns the process, which inherits the descriptors `pipes`."""
     out = opened_log(log)
     try:
         return begun([*HINGE, *words], stdin=NOTHING, stdout=out, stderr=out, pass_fds=pipes, start_new_session=True)

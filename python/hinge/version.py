@@ -5,7 +5,7 @@ from __future__ import annotations
 import os
 
 PACKAGE = os.path.dirname(os.path.realpath(__file__))
-PLACES = [os.path.join(PACKAGE, *up, "VERSION") for up in ((), ("..", ".."))]  # where it is installed, and in a clone
+PLACES = [os.path.join(PACKAGE, "VERSION"), os.path.join(PACKAGE, "..", "..", "VERSION")]  # in an installation, and in a clone
 
 
 def version() -> str:

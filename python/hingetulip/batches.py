@@ -6,7 +6,7 @@ from array import array
 from typing import Any, Generic, Iterable, Iterator, Optional, Sequence, TypeVar, Union, overload
 
 from hingetulip.errors import RangeError
-from hingetulip.layout import DELIVERY, FATE, PACKET, Layout
+from hingetulip.layout import DELIVERY, FATE, PACKET, PIPE, QUEUE, Layout
 from hingetulip.records import Delivery, Fate, Outcome
 
 Item = TypeVar("Item", covariant=True)
@@ -14,9 +14,10 @@ Values = Union[int, Iterable[int]]
 
 
 class Column:
-    """A field of all records in a batch: a memoryview of numbers over the records."""
+    """A batch's attribute for a field of all records: a memoryview of numbers in the records' memory."""
 
     def __init__(self, text: str) -> None:
+        """Uses the text as the column's docstring."""
         self.__doc__ = text
 
     def __set_name__(self, owner: type, name: str) -> None:
@@ -27,7 +28,7 @@ class Column:
 
 
 class Batch:
-    """Consecutive records in the library's format."""
+    """A batch of consecutive records in the library's format."""
 
     LAYOUT: Layout
 
@@ -44,7 +45,7 @@ class Batch:
 class Answers(Batch, Sequence[Item], Generic[Item]):
     """A batch that is also a sequence of items."""
 
-    READ: Any
+    READ: Any  # returns an item from a record's fields
 
     @overload
     def __getitem__(self, place: int) -> Item:
@@ -73,47 +74,49 @@ make_fate = Fate._make
 
 
 def read_fate(at: int, flow: int, packet: int, outcome: int) -> Fate:
-    """A fate from the fields of the library's struct."""
+    """Returns a fate from the fields of the library's struct."""
     if outcome == 0:
         return make_fate((QUEUED, at, flow, packet))
     return make_fate((OUTCOMES[outcome], at, None if outcome == NO_TARGET else flow, None))
 
 
 class Fates(Answers[Fate]):
-    """The fates of the packets in a `submit_many`, in order."""
+    """The fates of a `submit_many`'s packets, in their order."""
 
-    LAYOUT, READ = FATE, staticmethod(read_fate)
+    LAYOUT = FATE
+    READ = staticmethod(read_fate)
     outcome = Column("Numbers of `Outcome`.")
-    at = Column("The moments that counted, in ns.")
-    flow = Column("Flows, 0 where there was no target.")
-    packet = Column("Packet numbers, 0 where the packet wasn't accepted.")
+    at = Column("The effective moments, in ns.")
+    flow = Column("Flows; 0 without a target.")
+    packet = Column("Packet numbers; 0 for packets that weren't accepted.")
 
 
 class Deliveries(Answers[Delivery]):
-    """The packets that a `collect_many` took, in the order in which they are due."""
+    """The packets that a `collect_many` returned, in the order in which they are due."""
 
-    LAYOUT, READ = DELIVERY, staticmethod(Delivery)
-    due = Column("When they leave, in ns.")
-    packet = Column("Packet numbers, as fates told them.")
+    LAYOUT = DELIVERY
+    READ = staticmethod(Delivery)
+    due = Column("The moments when packets leave, in ns.")
+    packet = Column("Packet numbers, the same as in the packets' fates.")
     flow = Column("Flows.")
-    start = Column("When their transmission began, in ns.")
+    start = Column("The moments when transmissions began, in ns.")
 
 
 class Packets(Batch):
-    """Packets for `submit_many`. A column is a number for all packets, or a number for each. Columns can be changed between calls:
-    by item, by `packets.moment[:] = array("Q", moments)`, or with numpy by `numpy.asarray(packets.moment)[:] = moments`."""
+    """Packets for `submit_many`. You can change a column between calls: single items, or all with
+    `packets.moment[:] = array("Q", moments)`, or with numpy with `numpy.asarray(packets.moment)[:] = moments`."""
 
     LAYOUT = PACKET
-    moment = Column("When they arrive, in ns: 0 to 2^62.")
+    moment = Column("The moments of arrival, in ns: 0 to 2^62.")
     length = Column("Bytes: 1 to 65535.")
     number = Column("Numbers of the pipe or queue: 1 to 65535.")
-    kind = Column("0 for a packet to a pipe, 1 for one to a queue.")
+    kind = Column("0 for a packet to a pipe, 1 for a packet to a queue.")
     src = Column("IPv4 addresses as numbers: 10.0.0.1 is 0x0a000001.")
     dst = Column("IPv4 addresses as numbers.")
-    proto = Column("Protocols as in the IP header: 6 is TCP, 17 UDP.")
+    proto = Column("Protocol numbers of the IP header: 6 is TCP, 17 UDP.")
     sport = Column("Ports, 0 to 65535.")
     dport = Column("Ports, 0 to 65535.")
-    word = Column("Random words: a packet is lost where the low 31 bits of its word are below the loss rate times 2^31.")
+    word = Column("Random words: a packet is lost if the low 31 bits of its word are below the loss rate times 2^31.")
 
     def __init__(
         self,
@@ -130,17 +133,22 @@ class Packets(Batch):
         dport: Values = 0,
         word: Optional[Values] = None,
     ) -> None:
-        """Creates `count` packets, each for the pipe or queue with its number. Without words, each `submit_many` draws new ones."""
+        """Creates `count` packets for pipes or queues. Each argument is a number for all packets, or an iterable with a number for
+        each packet. Without words, each `submit_many` draws new words.
+
+        TypeError: there are neither pipes nor queues, or both. RangeError: a number is outside its column's range. ValueError: an
+        iterable has another length than `count`.
+        """
         number = queue if pipe is None else pipe
         if number is None or (pipe is not None and queue is not None):
             raise TypeError("packets are sent to a pipe or to a queue")
         super().__init__(bytearray(PACKET.record.size * count))
         self.draws = word is None
-        given = {
+        columns = {
             "moment": moment,
             "length": length,
             "number": number,
-            "kind": int(pipe is None),
+            "kind": QUEUE if pipe is None else PIPE,
             "src": src,
             "dst": dst,
             "proto": proto,
@@ -148,18 +156,19 @@ class Packets(Batch):
             "dport": dport,
             "word": 0 if word is None else word,
         }
-        for name, values in given.items():
+        for name, values in columns.items():
             self._fill(name, values)
 
     @classmethod
     def of_records(cls, records: memoryview) -> Packets:
-        """Packets that the library wrote, with their words."""
+        """Returns the packets in records that the library wrote, with their words."""
         packets = cls.__new__(cls)
         Batch.__init__(packets, records)
         packets.draws = False
         return packets
 
     def _fill(self, name: str, values: Any) -> None:
+        """Sets a column to a number or to numbers."""
         column: memoryview = getattr(self, name)
         try:
             if isinstance(values, int):

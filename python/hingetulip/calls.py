@@ -1,6 +1,5 @@
-"""Base classes and helpers that shapers, callers, audits and services share. They allow only one call at a time, and keep the
-library's memory until `close` frees it.
-"""
+"""Base classes and functions that shapers, callers, audits and services share. They allow only one call at a time, and keep the
+library's memory until `close` frees it."""
 
 from __future__ import annotations
 
@@ -18,35 +17,40 @@ from typing import Any, Callable, NoReturn, Optional, TypeVar, Union
 
 from hingetulip.batches import QUEUED, make_fate, read_fate
 from hingetulip.errors import InUseError, LineError, RangeError
-from hingetulip.layout import DELIVERY, FATE, FAULT, FLOW, PACKET
+from hingetulip.layout import DELIVERY, FATE, FAULT, FLOW, PACKET, PIPE, QUEUE
 from hingetulip.library import LAST_MOMENT, LINE, NEVER, Handle, failure, reason
 from hingetulip.records import Delivery, Fate, FlowStatus
 
 NEITHER_OR_BOTH = "a packet is sent to a pipe or to a queue"
 NOTHING = memoryview(b"")
-pack_packet, unpack_fate, iterate_deliveries = PACKET.record.pack_into, FATE.record.unpack, DELIVERY.record.iter_unpack
+pack_packet = PACKET.record.pack_into
+unpack_fate = FATE.record.unpack
+iterate_deliveries = DELIVERY.record.iter_unpack
 pack_moment = Struct("=Q").pack_into
 SECRET = Struct("=QQ")
 Line = Union[str, bytes, bytearray, memoryview]
 Closable = TypeVar("Closable", bound="Closing")
 
 
-def encoded(line: Line) -> bytes:
+def encode_line(line: Line) -> bytes:
+    """Returns a configuration line's bytes. Surrogates remain, so that the library reports text that isn't UTF-8."""
     return bytes(line) if isinstance(line, (bytes, bytearray, memoryview)) else line.encode("utf-8", "surrogatepass")
 
 
 def secret() -> tuple[c_uint64, c_uint64]:
-    """Returns a random key for a table of flows, so that an attacker can't choose slow packets; answers don't depend on the key."""
+    """Returns a random key for a flow table, so that an attacker can't choose packets that slow the table. No result depends on the
+    key."""
     high, low = SECRET.unpack(urandom(SECRET.size))
     return c_uint64(high), c_uint64(low)
 
 
 def succeed(status: int) -> None:
+    """Raises the exception for a call's status, unless the call succeeded."""
     if status:
         raise failure(status)
 
 
-def unpackable(**fields: Any) -> Exception:
+def error_of_fields(**fields: Any) -> Exception:
     """Returns the exception for a packet's fields, or a moment, outside the library's types."""
     for name, value in fields.items():
         most = LAST_MOMENT if name == "moment" else 256 ** PACKET.width(name) - 1
@@ -60,13 +64,17 @@ def unpackable(**fields: Any) -> Exception:
 
 def read_flow(*fields: int) -> FlowStatus:
     """Returns a flow from the fields of the library's struct."""
-    of = dict(zip(FLOW.codes, fields))
-    number, is_of_queue = of.pop("number"), of.pop("kind")
-    return FlowStatus(queue=number if is_of_queue else None, **of)
+    values = dict(zip(FLOW.codes, fields))
+    number = values.pop("number")
+    kind = values.pop("kind")
+    return FlowStatus(queue=number if kind == QUEUE else None, **values)
 
 
 class Turn:
-    """Calls, one at a time. A call in the midst of another one raises, so that no answer mixes two calls."""
+    """Allows one call at a time. A call during another call raises InUseError, so that no result mixes two calls.
+
+    `take` begins a call and returns whether that succeeded, and `give` ends the call.
+    """
 
     def __init__(self) -> None:
         lock = Lock()
@@ -82,30 +90,32 @@ class Turn:
 
 
 class WaitingTurn(Turn):
-    """Calls by several threads, one at a time: a thread waits for another's call.
+    """Allows one call at a time to several threads: a thread waits for other threads' calls.
 
-    Signal handlers that interrupt a call, and finalizers that run within one, can't wait for that call: they raise InUseError.
+    Signal handlers that interrupt a call, and finalizers that run during a call, can't wait for that call: they raise InUseError.
     """
 
     def __init__(self) -> None:
-        self._lock, self._taken = RLock(), False
-        self.take, self.give = self._take, self._give
+        self._lock = RLock()
+        self._is_taken = False
+        self.take = self._take
+        self.give = self._give
 
     def _take(self) -> bool:
         self._lock.acquire()
-        if self._taken:
+        if self._is_taken:
             self._lock.release()
             return False
-        self._taken = True
+        self._is_taken = True
         return True
 
     def _give(self) -> None:
-        self._taken = False
+        self._is_taken = False
         self._lock.release()
 
 
 class Closing(ABC):
-    """The owner of a library handle. `close`, the end of a `with` or the last reference's end closes the handle."""
+    """The owner of a library handle. `close`, the end of a `with` block or the end of the last reference closes the handle."""
 
     _handle: Handle
 
@@ -115,6 +125,7 @@ class Closing(ABC):
 
     @property
     def closed(self) -> bool:
+        """Whether the handle is closed."""
         return not self._handle.open
 
     def __enter__(self: Closable) -> Closable:
@@ -131,14 +142,17 @@ class Closing(ABC):
 
 
 class Calls(ABC):
-    """The calls of an emulator. A subclass sets the library's functions: each takes a call's arguments, and returns its status."""
+    """The calls of an emulator. A subclass sets the library's functions, which accept a call's arguments and return its status."""
 
     def __init__(self, turn: Turn, seed: Optional[int]) -> None:
-        self._turn, self._random = turn, Random(seed)
-        self._take, self._give = turn.take, turn.give  # a `with` would take a tenth of a call
-        self._packet, self._fate = (c_char * PACKET.size)(), (c_char * FATE.size)()
-        self._moment, self._number = c_uint64(), c_uint64()
-        # The arguments of calls are made once: to make them at each call would take longer than the call.
+        self._turn = turn
+        self._random = Random(seed)
+        self._take, self._give = turn.take, turn.give  # a `with` block would need a tenth of a call's time
+        self._packet = (c_char * PACKET.size)()
+        self._fate = (c_char * FATE.size)()
+        self._moment = c_uint64()
+        self._number = c_uint64()
+        # These arguments of calls are made once, since making them at each call would take longer than the call.
         self._submitted: tuple[Any, ...] = byref(self._packet), byref(self._fate)
         self._advanced = self._moment, byref(self._number)
 
@@ -149,7 +163,7 @@ class Calls(ABC):
 
     @abstractmethod
     def _due(self) -> Any:
-        """Collects at the current moment; returns the records of the packets."""
+        """Collects at the moment in `_moment`; returns the records of the due packets."""
 
     @abstractmethod
     def _flows(self) -> Any:
@@ -160,10 +174,10 @@ class Calls(ABC):
 
         LineError: the line isn't a command. RefusedError: the pipe or queue doesn't exist, or a pipe to delete has queues.
         """
-        succeed(self._obeyed(encoded(line)))
+        succeed(self._obeyed(encode_line(line)))
 
     def _obeyed(self, line: bytes) -> int:
-        """Returns the status of a line that is a command or has no words."""
+        """Applies a line, and returns the call's status. LineError: the line isn't a command, though it has words."""
         fault = (c_char * FAULT.size)()
         with self._turn:
             status = self._configure(line, c_size_t(len(line)), byref(fault))
@@ -189,14 +203,14 @@ class Calls(ABC):
         """Returns the fate of a packet with `length` bytes that arrives at a pipe or queue at `moment` ns.
 
         Addresses are numbers: 10.0.0.1 is 0x0a000001. The packet is lost if the low 31 bits of its word are below the loss rate
-        (`plr`) times 2^31; without a word, the library draws one. RangeError: a number is outside its range. TypeError: there is no
+        (`plr`) times 2^31; without a word, the shaper draws one. RangeError: a number is outside its range. TypeError: there is no
         target, or two. InUseError: another call is in progress.
         """
         if pipe is None:
-            number, kind = queue, 1
+            number, kind = queue, QUEUE
         else:
-            number, kind = pipe, 0
-        if number is None or kind == 0 and queue is not None:
+            number, kind = pipe, PIPE
+        if number is None or kind == PIPE and queue is not None:
             raise TypeError(NEITHER_OR_BOTH)
         if not self._take():
             raise InUseError
@@ -207,31 +221,34 @@ class Calls(ABC):
             status = self._submit(*self._submitted)
             at, flow, packet, outcome = unpack_fate(self._fate)
         except StructError:
-            raise unpackable(
+            raise error_of_fields(
                 moment=moment, src=src, dst=dst, word=word, sport=sport, dport=dport, length=length, number=number, proto=proto
             ) from None
         finally:
             self._give()
         if status:
             raise failure(status)
-        return make_fate((QUEUED, at, flow, packet)) if outcome == 0 else read_fate(at, flow, packet, outcome)
+        if outcome == 0:
+            return make_fate((QUEUED, at, flow, packet))
+        return read_fate(at, flow, packet, outcome)
 
     def advance(self, moment: int) -> int:
-        """Moves the clock to `moment` ns if it is earlier; returns the clock in ns. No packet leaves."""
+        """Moves the clock forward to `moment` ns, unless the clock is later; returns the clock in ns. No packet leaves."""
         with self._turn:
             self._set_moment(moment)
             succeed(self._advance(*self._advanced))
             return self._number.value
 
     def collect(self, moment: int) -> list[Delivery]:
-        """Moves the clock to `moment` ns, and returns the packets that are due, which leave, in the order in which they are due."""
+        """Moves the clock forward to `moment` ns, and returns the packets that are due and leave, in the order in which they are
+        due."""
         with self._turn:
             self._set_moment(moment)
             records = self._due()
             return list(map(Delivery._make, iterate_deliveries(records))) if records else []
 
     def show(self) -> list[FlowStatus]:
-        """Returns the states of all flows, by number."""
+        """Returns the states of all flows, ordered by number."""
         with self._turn:
             return [read_flow(*fields) for fields in FLOW.record.iter_unpack(self._flows())]
 
@@ -240,8 +257,8 @@ class Calls(ABC):
         calls.
 
         Earlier collects return no packet. A collect at that moment may return no packet either, if it only begins a transmission.
-        The result exceeds LAST_MOMENT if no packet can come any more, and is None if no packet waits or is in transit. The call
-        changes nothing. A service's history doesn't contain it, and another caller may call before this caller's next call.
+        The result exceeds LAST_MOMENT if no packet can leave any more, and is None if no packet waits or is in transit. The call
+        changes nothing, and a service's history doesn't contain the call. Other callers may call before this caller's next call.
         """
         with self._turn:
             succeed(self._wake(byref(self._number)))
@@ -252,4 +269,4 @@ class Calls(ABC):
         try:
             pack_moment(self._moment, 0, moment)
         except StructError:
-            raise unpackable(moment=moment) from None
+            raise error_of_fields(moment=moment) from None

@@ -1,4 +1,4 @@
-"""The entries of a history: calls of the emulator with their replies."""
+"""Reads the entries of a history: calls of the emulator with their replies."""
 
 from __future__ import annotations
 
@@ -11,7 +11,7 @@ from typing import NamedTuple, Optional, Sequence, Union
 from hingetulip.batches import read_fate
 from hingetulip.calls import read_flow
 from hingetulip.errors import HistoryError
-from hingetulip.layout import DELIVERY, ENTRY, FATE, FLOW, HISTORY, PACKET
+from hingetulip.layout import DELIVERY, ENTRY, FATE, FLOW, HISTORY, PACKET, QUEUE
 from hingetulip.library import BAD_RECORD, CALLS, ROOM, failure, reason
 from hingetulip.records import Delivery, Fate, FlowStatus, Rule
 
@@ -27,10 +27,10 @@ class EntryCall(IntEnum):
 
 
 class EntryReply(IntEnum):
-    """The kind of a reply.
+    """The kind of a reply, which determines the reply's content.
 
-    REFUSED: only a reason. CONFIGURED, DELETED: the line took effect. FATE: the packet's fate. CLOCK: the clock. DELIVERIES: the
-    clock and the due packets. FLOWS: the states of flows.
+    REFUSED: the reason for the refusal. CONFIGURED and DELETED: no content, since the line took effect. FATE: the packet's fate.
+    CLOCK: the clock. DELIVERIES: the clock and the due packets. FLOWS: the states of flows.
     """
 
     REFUSED = 0
@@ -43,7 +43,7 @@ class EntryReply(IntEnum):
 
 
 class Submitted(NamedTuple):
-    """The packet of a submit, with the names of `Shaper.submit`: `shaper.submit(**entry.packet._asdict())` repeats it."""
+    """The packet of a submit, with the names in `Shaper.submit`: `shaper.submit(**entry.packet._asdict())` repeats the call."""
 
     moment: int
     length: int
@@ -60,9 +60,9 @@ class Submitted(NamedTuple):
 class Entry(NamedTuple):
     """A call by a history's caller, and its reply. Inapplicable fields are None or empty lists.
 
-    `moment` is that of a submit, an advance or a collect. `line` is a configuration line in canonical form. `at` is the effective
-    moment, or the clock. `refusal` is the reason for a refusal, such as `no such pipe`. In an unlawful history, the reply may be of
-    a kind that the call never gets.
+    `moment` is the moment, in ns, of a submit, an advance or a collect. `line` is a configuration line in canonical form. `at` is
+    the reply's effective moment, or the clock. `refusal` is the reason for a refusal, such as `no such pipe`. In an unlawful
+    history, the reply may be of a kind that the call never gets.
     """
 
     caller: int
@@ -79,7 +79,7 @@ class Entry(NamedTuple):
 
 
 class History(NamedTuple):
-    """The entries of a history in order, and the rule by which an audit makes their calls again."""
+    """The entries of a history in order, and the rule under which an audit repeats their calls."""
 
     rule: Rule
     entries: list[Entry]
@@ -88,62 +88,64 @@ class History(NamedTuple):
 CALLS_BY_NUMBER, REPLIES_BY_NUMBER = tuple(EntryCall), tuple(EntryReply)
 TIMED_CALLS = (EntryCall.SUBMIT, EntryCall.ADVANCE, EntryCall.COLLECT)
 TIMED_REPLIES = (EntryReply.FATE, EntryReply.CLOCK, EntryReply.DELIVERIES)
-WIDTHS = (ENTRY.size, 1, DELIVERY.size, FLOW.size)  # of the lists that the library writes
-LINE_ROOM = 256  # bytes, which hardly a line exceeds
+WIDTHS = (ENTRY.size, 1, DELIVERY.size, FLOW.size)  # the bytes of an item in each list that the library writes
+LINE_ROOM = 256  # bytes; hardly any line is longer
 
 
 def submitted(
     moment: int, src: int, dst: int, word: int, sport: int, dport: int, length: int, number: int, kind: int, proto: int
 ) -> Submitted:
-    """A packet from the fields of the library's struct."""
-    pipe, queue = (None, number) if kind else (number, None)
+    """Returns a packet from the fields of the library's struct."""
+    pipe, queue = (None, number) if kind == QUEUE else (number, None)
     return Submitted(moment, length, pipe, queue, src, dst, proto, sport, dport, word)
 
 
 class Lists:
-    """The library's lists for a history's text. HistoryError: a record is malformed or missing."""
+    """The lists into which the library reads a history: entries, lines, deliveries and flows."""
 
     def __init__(self, text: bytes) -> None:
+        """Reads a history's text. HistoryError: a record is malformed or missing."""
         rooms = (text.count(b"\nc,"), LINE_ROOM * text.count(b",configure,"), text.count(b"\nd,"), text.count(b"\nf,"))
         status = self._read(text, rooms)
-        if status == ROOM:  # for records that are written otherwise than the program writes them
+        if status == ROOM:  # some records have another form than the program writes
             status = self._read(text, self.sizes)
         if status == BAD_RECORD:
             raise HistoryError("", self.record.value)
         if status:
             raise failure(status)
-        entries, lines, deliveries, flows = (
-            written.raw[: width * size] for written, width, size in zip(self.lists, WIDTHS, self.sizes)
+        self.entries, self.lines, deliveries, flows = (
+            items.raw[: width * size] for items, width, size in zip(self.lists, WIDTHS, self.sizes)
         )
-        self.entries, self.lines = entries, lines
         self.deliveries = [Delivery._make(fields) for fields in DELIVERY.record.iter_unpack(deliveries)]
         self.flows = [read_flow(*fields) for fields in FLOW.record.iter_unpack(flows)]
 
     def _read(self, text: bytes, rooms: Sequence[int]) -> int:
-        history, self.record = (c_char * HISTORY.size)(), c_uint64()
+        """Reads a history into lists with room for these numbers of items; returns the call's status."""
+        history = (c_char * HISTORY.size)()
+        self.record = c_uint64()
         self.lists = [(c_char * (width * room))() for width, room in zip(WIDTHS, rooms)]
-        written = chain.from_iterable((one, c_size_t(room)) for one, room in zip(self.lists, rooms))
-        status: int = CALLS.dn_read_history(text, c_size_t(len(text)), *written, history, byref(self.record))
+        arguments = chain.from_iterable((items, c_size_t(room)) for items, room in zip(self.lists, rooms))
+        status: int = CALLS.dn_read_history(text, c_size_t(len(text)), *arguments, history, byref(self.record))
         *self.sizes, self.rule = HISTORY.record.unpack(history)
         return status
 
     def entry(self, packet: bytes, fate: bytes, *numbers: int) -> Entry:
-        """An entry from the fields of the library's struct."""
+        """Returns an entry from the fields of the library's struct."""
         caller, line, size, first, count, status, call_number, reply_number = numbers
         call, reply = CALLS_BY_NUMBER[call_number], REPLIES_BY_NUMBER[reply_number]
-        sent, answer = PACKET.record.unpack(packet), FATE.record.unpack(fate)
+        packet_fields, fate_fields = PACKET.record.unpack(packet), FATE.record.unpack(fate)
         return Entry(
-            caller,
-            call,
-            reply,
-            sent[0] if call in TIMED_CALLS else None,
-            self.lines[line : line + size].decode() if call is EntryCall.CONFIGURE else None,
-            submitted(*sent) if call is EntryCall.SUBMIT else None,
-            answer[0] if reply in TIMED_REPLIES else None,
-            read_fate(*answer) if reply is EntryReply.FATE else None,
-            self.deliveries[first : first + count] if reply is EntryReply.DELIVERIES else [],
-            self.flows[first : first + count] if reply is EntryReply.FLOWS else [],
-            reason(status) if reply is EntryReply.REFUSED else None,
+            caller=caller,
+            call=call,
+            reply=reply,
+            moment=packet_fields[0] if call in TIMED_CALLS else None,
+            line=self.lines[line : line + size].decode() if call is EntryCall.CONFIGURE else None,
+            packet=submitted(*packet_fields) if call is EntryCall.SUBMIT else None,
+            at=fate_fields[0] if reply in TIMED_REPLIES else None,
+            fate=read_fate(*fate_fields) if reply is EntryReply.FATE else None,
+            deliveries=self.deliveries[first : first + count] if reply is EntryReply.DELIVERIES else [],
+            flows=self.flows[first : first + count] if reply is EntryReply.FLOWS else [],
+            refusal=reason(status) if reply is EntryReply.REFUSED else None,
         )
 
 

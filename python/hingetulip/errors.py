@@ -1,4 +1,4 @@
-"""The exceptions of calls. A call that raised has changed nothing, unless its exception says otherwise."""
+"""The exceptions of calls. A call that raises an exception changes nothing, unless the exception says otherwise."""
 
 from __future__ import annotations
 
@@ -12,11 +12,11 @@ class HingetulipError(Exception):
     """The base of this module's exceptions."""
 
     fates: Optional[Fates] = None
-    """Of `submit_many`: the fates of the packets before the one that wasn't answered."""
+    """After `submit_many`, the fates of the packets before the packet that failed."""
 
 
 class ClosedError(HingetulipError, ValueError):
-    """The shaper was closed, or the audit has ended."""
+    """Raised for a call of a closed shaper or service, or of an audit that has ended."""
 
 
 class LineError(HingetulipError, ValueError):
@@ -25,16 +25,16 @@ class LineError(HingetulipError, ValueError):
     def __init__(self, kind: str, word: int, line: str = "") -> None:
         fault = f"word {word}: {kind}" if word else kind
         if line and word:
-            from hingetulip_words.explained import explained  # which a wrong line alone needs
+            from hingetulip_words.explained import explained  # only a wrong line needs this module
 
             fault = explained(line, fault)
         super().__init__(f"{fault}, in {line!r}" if line else fault)
         self.line = line
-        """The line, where it is known."""
+        """The line, or an empty text if it isn't known."""
         self.kind = kind
-        """What is wrong, as `bad number`."""
+        """The kind of the error, such as `bad number`."""
         self.word = word
-        """The word at which that shows, from 1; 0 where the line isn't text, or `kind` names the word."""
+        """The number of the wrong word, from 1; 0 if the line isn't text, or if `kind` names the word."""
 
     def __reduce__(self) -> tuple[type[LineError], tuple[str, int, str]]:
         return LineError, (self.kind, self.word, self.line)
@@ -68,22 +68,22 @@ class RowError(HingetulipError, ValueError):
         self.row = row
         """The first bad row, from 1; 0 is the header."""
         self.field = field
-        """Its first bad field, from 1; 0 if it hasn't ten."""
+        """The row's first bad field, from 1; 0 if the row hasn't ten fields."""
 
     def __reduce__(self) -> tuple[type[RowError], tuple[int, int]]:
         return RowError, (self.row, self.field)
 
 
 class InUseError(HingetulipError, RuntimeError):
-    """Another thread, or the code that a signal interrupted, is in a call of this shaper, or of this caller or service."""
+    """Raised if another thread, or the code that a signal interrupted, is in a call of the same object."""
 
     def __init__(self) -> None:
         super().__init__("another thread, or what a signal interrupted, is in a call of it")
 
 
 class OutOfMemoryError(HingetulipError, MemoryError):
-    """Memory was refused. The same call may be made again, except for that of an audit, which has ended."""
+    """Raised if the system refuses memory. You may repeat the call, unless it is an audit's: the audit has ended."""
 
 
 class ExhaustedError(HingetulipError):
-    """The shaper answered 2^62 calls, and answers no more."""
+    """Raised after 2^62 calls of a shaper, which then refuses all calls."""

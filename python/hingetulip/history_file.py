@@ -1,4 +1,4 @@
-"""Histories for writing: the file, and the text of a caller's calls, each entry after its predecessor."""
+"""Writes histories: the file, and the text of a single caller's calls."""
 
 from __future__ import annotations
 
@@ -12,10 +12,10 @@ from hingetulip.layout import FAULT
 from hingetulip.library import CALLS, FAILURES, ROOM, failure
 
 FRONT, END = b"dummynet-history,3\n", b"end,%d\n"
-MOST_WAITING = 1 << 16  # bytes that are written by one call of the system
-LONGEST = 4096  # bytes of an entry, at first
-CALLER = c_uint64.from_param(0)  # an argument that is made once; a number would be made one at each call
-ANSWERED = {0, *(status for status, kind in FAILURES.items() if kind is RefusedError)}  # which a command was
+MOST_WAITING = 1 << 16  # bytes of text after which the system is called to write them
+LONGEST = 4096  # the bytes of the longest entry for which there is room at first
+CALLER = c_uint64.from_param(0)  # the caller's number as an argument; ctypes would convert a number at each call
+ANSWERED = {0, *(status for status, kind in FAILURES.items() if kind is RefusedError)}  # the statuses of lines that are commands
 
 
 class HistoryFile:
@@ -25,12 +25,13 @@ class HistoryFile:
     """
 
     def __init__(self, path: Union[str, PathLike[str]]) -> None:
-        self._file, self._waiting = FileIO(path, "w"), bytearray(FRONT)
-        self._entries: Optional[int] = None
+        self._file = FileIO(path, "w")
+        self._waiting = bytearray(FRONT)  # the text that isn't written yet
+        self._entries: Optional[int] = None  # the number of entries, once the history has ended
         self.flush()
 
     def write(self, text: memoryview) -> None:
-        """Appends text. It is in the file after the next flush."""
+        """Appends text, which is in the file after the next flush at the latest."""
         self._waiting += text
         if len(self._waiting) >= MOST_WAITING:
             self.flush()
@@ -41,7 +42,7 @@ class HistoryFile:
             del self._waiting[: self._file.write(self._waiting)]
 
     def end(self, entries: int) -> None:
-        """Ends the history, which has so many entries, and closes the file. After an OSError it can be called again."""
+        """Ends the history with its number of entries, and closes the file. After an OSError you can call this again."""
         if self._entries is None:
             self._entries = entries
             self._waiting += END % entries
@@ -50,25 +51,29 @@ class HistoryFile:
 
 
 class Recording:
-    """A single caller's history, and its file."""
+    """The history of a single caller, and its file."""
 
     def __init__(self, path: Union[str, PathLike[str]]) -> None:
-        self._file, self._count, self._length = HistoryFile(path), 0, c_uint64()
-        self._place, self._room = c_void_p(), c_size_t()
+        self._file = HistoryFile(path)
+        self._count = 0  # the number of entries
+        self._length = c_uint64()  # the length of the last entry
+        self._place = c_void_p()  # the place of the next entry in the buffer
+        self._room = c_size_t()  # the longest entry for which the buffer has room
         self._make_room(LONGEST)
 
     def _make_room(self, longest: int) -> None:
-        """Makes a buffer for the next entries, each of at most so many bytes."""
+        """Allocates a buffer for the next entries, each of at most `longest` bytes."""
         self._text = bytearray(MOST_WAITING + longest)
         self._first = self._place.value = addressof((c_char * len(self._text)).from_buffer(self._text))
         self._room.value = longest
 
-    def entry(self, *words: Any) -> tuple[Any, ...]:
-        """Returns the arguments of a library call that writes an entry. They are made once for calls that are often made."""
-        return CALLER, *words, self._place, self._room, byref(self._length)
+    def entry(self, *arguments: Any) -> tuple[Any, ...]:
+        """Returns the arguments of a library call that writes an entry: the caller, `arguments` and the buffer. Frequent calls
+        share them."""
+        return CALLER, *arguments, self._place, self._room, byref(self._length)
 
     def add(self, call: Callable[..., int], entry: tuple[Any, ...]) -> None:
-        """Adds the entry that a call writes. A line without words is no entry."""
+        """Adds the entry that a library call writes. For a line without words, the call writes nothing."""
         status = call(*entry)
         if status == ROOM:
             self._gather()
@@ -79,21 +84,25 @@ class Recording:
         length = self._length.value
         if length:
             self._count += 1
-            self._place.value = behind = self._place.value + length  # type: ignore[operator]
-            if behind > self._first + MOST_WAITING:
+            end = self._place.value + length  # type: ignore[operator]
+            self._place.value = end
+            if end > self._first + MOST_WAITING:
                 self._gather()
 
     def add_line(self, line: bytes, status: int) -> None:
-        """Adds a configuration line with its call's status, if the line is a command."""
+        """Adds a configuration line with its call's status, if the status is a command's."""
         if status in ANSWERED:
             no_fault = byref((c_char * FAULT.size)())
             self.add(CALLS.dn_configure_text, self.entry(line, c_size_t(len(line)), c_uint32(status), no_fault))
 
     def add_advance(self, moment: int, clock: int) -> None:
+        """Adds an advance to a moment, with the clock after it."""
         self.add(CALLS.dn_advance_text, self.entry(c_uint64(moment), c_uint64(clock)))
 
     def _gather(self) -> None:
-        length, self._place.value = self._place.value - self._first, self._first  # type: ignore[operator]
+        """Moves the entries from the buffer to the file's text."""
+        length = self._place.value - self._first  # type: ignore[operator]
+        self._place.value = self._first
         self._file.write(memoryview(self._text)[:length])
 
     def flush(self) -> bytes:
@@ -103,6 +112,6 @@ class Recording:
         return END % self._count
 
     def end(self) -> None:
-        """Ends the history and closes the file. After an OSError, you may call this again."""
+        """Ends the history, and closes the file. After an OSError you can call this again."""
         self._gather()
         self._file.end(self._count)

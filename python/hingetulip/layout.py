@@ -1,4 +1,4 @@
-"""The structs of hingetulip.h as bytes: their fields lie in this order and without gaps."""
+"""Describes the structs of hingetulip.h as bytes: their fields follow each other in this order and without gaps."""
 
 from __future__ import annotations
 
@@ -7,10 +7,12 @@ from typing import Union
 
 
 class Layout:
-    """A struct's fields, from a text with a code for the module `struct` before the names of its fields; `x` is reserved."""
+    """The layout of a struct's fields."""
 
     def __init__(self, text: str) -> None:
-        self.codes: dict[str, str] = {}
+        """Reads the fields from a text such as `Q moment, I src dst, 2x`: codes of the module `struct`, each before the names of
+        its fields. The code `x` stands for reserved bytes."""
+        self.codes: dict[str, str] = {}  # the fields' codes, by name
         for code, *names in map(str.split, text.split(",")):
             self.codes.update(dict.fromkeys(names or ["reserved"], code))
         self.record = Struct("=" + "".join(self.codes.values()))
@@ -21,12 +23,14 @@ class Layout:
         return calcsize("=" + self.codes[name])
 
     def column(self, name: str, records: Union[bytearray, memoryview]) -> memoryview:
-        """A field of all records in a buffer, read and written in place."""
-        before = list(self.codes.values())[: list(self.codes).index(name)]
-        first, width = calcsize("=" + "".join(before)), self.width(name)
-        return memoryview(records).cast("B").cast(self.codes[name])[first // width :: self.size // width]
+        """Returns a view of the field in all records of a buffer, which reads and writes the records."""
+        earlier_codes = list(self.codes.values())[: list(self.codes).index(name)]
+        offset = calcsize("=" + "".join(earlier_codes))
+        width = self.width(name)
+        return memoryview(records).cast("B").cast(self.codes[name])[offset // width :: self.size // width]
 
 
+PIPE, QUEUE = 0, 1  # a target's kind, in the fields `kind` of packets and flows
 PACKET = Layout("Q moment, I src dst word, H sport dport length number, B kind proto, 2x")
 FATE = Layout("Q at flow packet, I outcome, 4x")
 DELIVERY = Layout("Q due packet flow start, 8x")

@@ -1,4 +1,4 @@
-"""The results of a Shaper and an Audit. Moments are in ns and lengths in bytes; flows, packets and entries are numbered from 0."""
+"""The results of shapers and audits. Moments are in ns and lengths in bytes; flows, packets and entries have numbers from 0."""
 
 from __future__ import annotations
 
@@ -9,8 +9,8 @@ from typing import NamedTuple, Optional
 class Rule(IntEnum):
     """The order of a link's packets.
 
-    ORDERED: a packet is due no sooner than the one before it. FREE: a packet is due after its transmission and the pipe's delay, so
-    that a shorter delay lets packets overtake others.
+    ORDERED: a packet is due no sooner than the packet before it. FREE: a packet is due after its transmission and the pipe's delay,
+    so that packets overtake others after a change to a shorter delay.
     """
 
     ORDERED = 0
@@ -20,8 +20,8 @@ class Rule(IntEnum):
 class Outcome(IntEnum):
     """The outcome of a submitted packet.
 
-    QUEUED: the packet was accepted, and a collect returns it unless a delete discards it first. LOST: the loss rate (`plr`) lost
-    it. FULL: its queue was full. NO_TARGET: its pipe or queue isn't configured.
+    QUEUED: the packet was accepted, and a collect returns it unless a delete discards it first. LOST: the packet was lost by the
+    loss rate (`plr`). FULL: the packet's queue was full. NO_TARGET: the packet's pipe or queue isn't configured.
     """
 
     QUEUED = 0
@@ -31,10 +31,10 @@ class Outcome(IntEnum):
 
 
 class Fate(NamedTuple):
-    """The answer to a packet.
+    """The emulator's reply to a packet.
 
-    `at` is the effective moment: the packet's moment, or an earlier call's if the clock was already later. `flow` is None without a
-    target. `packet` is the number of earlier accepted packets, or None for a refused packet.
+    `at` is the effective moment: the packet's moment, or the clock if the clock was later. `flow` is the packet's flow, or None
+    without a target. `packet` is the packet's number among the accepted packets, or None if the packet wasn't accepted.
     """
 
     outcome: Outcome
@@ -44,8 +44,8 @@ class Fate(NamedTuple):
 
 
 class Delivery(NamedTuple):
-    """A packet that leaves the emulator at `due`. `packet` is the number in the packet's `Fate`, and its transmission began at
-    `start`."""
+    """A packet that leaves the emulator at the moment `due`. `packet` is the number in the packet's `Fate`, and `start` the moment
+    when its transmission began."""
 
     due: int
     packet: int
@@ -56,10 +56,10 @@ class Delivery(NamedTuple):
 class FlowStatus(NamedTuple):
     """A flow's state, with the counts of its packets so far.
 
-    Its packets were sent to `queue`, or if that is None to the pipe; `pipe` carries them. Addresses, protocol and ports are the
-    flow's within the mask's bits, and 0 elsewhere. `queued` packets with `bytes` bytes wait in its queue. `lost` packets fell to
-    the loss rate, and `full` to a full queue; `started` have begun their transmission, and a delete discarded `discarded` from the
-    queue.
+    The packets were sent to `queue`, or to the pipe if `queue` is None, and `pipe` carries them. Addresses, protocol and ports are
+    the flow's in the bits of the mask, and 0 in all others. In the flow's queue, `queued` packets wait, with `bytes` bytes. So far
+    the loss rate lost `lost` packets, a full queue dropped `full`, `started` have begun their transmission, and deletes discarded
+    `discarded` from the queue.
     """
 
     flow: int
@@ -79,10 +79,10 @@ class FlowStatus(NamedTuple):
 
 
 class Verdict(NamedTuple):
-    """The result of an audit. The history contains `entries` calls with replies.
+    """The result of an audit. A lawful verdict is true.
 
-    `differs` is the first entry whose reply isn't the emulator's after the preceding calls, or None if the history is valid. A
-    lawful verdict is true.
+    `entries` is the number of calls with replies in the history. `differs` is the first entry whose reply isn't the emulator's
+    after the preceding calls, or None if there is no such entry.
     """
 
     entries: int
@@ -90,6 +90,7 @@ class Verdict(NamedTuple):
 
     @property
     def lawful(self) -> bool:
+        """Whether each reply is the emulator's."""
         return self.differs is None
 
     def __bool__(self) -> bool:

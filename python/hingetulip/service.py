@@ -1,4 +1,4 @@
-"""A service: one emulator that many threads call, and its history in a file."""
+"""A service: an emulator that many threads call, and its history in a file."""
 
 from __future__ import annotations
 
@@ -19,17 +19,17 @@ from hingetulip.library import LIBRARY, ROOM, Handle
 BUSY, NO_ENTRY = 15, 18
 FIRST_ROOM, MOST_CALLERS = 16384, 15
 
-# How often a call is tried before a thread sleeps between two tries, and for how many seconds it then sleeps.
-TRIES_AT_ONCE, REST = 4, 20e-6
+TRIES_AT_ONCE = 4  # the number of tries of a call before the thread sleeps between two tries
+REST = 20e-6  # the s that the thread then sleeps
+
+# PyDLL holds Python's lock during a call, and CDLL releases the lock. A caller's call is shorter than releasing and reacquiring the lock:
+# with CDLL, eight threads together made a quarter of the calls that a single thread makes. So callers hold the lock, and release it only
+# in the sleep between two tries.
 
 
-# PyDLL holds Python's lock during a call, and CDLL releases it. A call of a caller is shorter than the way out of the lock and back, by
-# which eight threads got a quarter of what one gets. So callers hold it, and release it only where they wait for a call that takes long.
-
-
-def answered(call: Callable[..., int], *arguments: Any) -> int:
-    """Returns the status of a call when no other caller is in a call. Most calls end at once, so sleeping begins only after some
-    tries."""
+def retried(call: Callable[..., int], *arguments: Any) -> int:
+    """Returns the status of a call, repeated until no other caller is in a call. Most calls end at once, so a thread sleeps only
+    after some tries."""
     tries = 0
     while True:
         status = call(*arguments)
@@ -40,95 +40,107 @@ def answered(call: Callable[..., int], *arguments: Any) -> int:
 
 
 class Caller(Calls):
-    """A caller of a service. Threads may share it: a call waits for other threads' calls.
+    """Calls a service, with the same methods as Shaper. Threads may share a caller: a call waits for other threads' calls.
 
-    Its calls are those of Shaper. Each reply includes all calls that this caller's earlier replies included.
+    Each reply includes the effects of all calls whose effects this caller's earlier replies included.
     """
 
     def __init__(self, calls: PyDLL, handle: Any, number: int, seed: Optional[int]) -> None:
         super().__init__(WaitingTurn(), seed)
-        self.number, self._calls, self._self, holder = number, calls, handle, byref(c_uint64())
+        self.number = number
+        self._calls = calls
+        self._self = handle
+        holder = byref(c_uint64())  # the number of the caller that is in a call
 
-        def asked(call: Callable[..., int]) -> Callable[..., int]:
-            return lambda *words: answered(call, handle, *words, holder)
+        def function(call: Callable[..., int]) -> Callable[..., int]:
+            return lambda *arguments: retried(call, handle, *arguments, holder)
 
-        self._configure, self._submit = asked(calls.dn_caller_configure), asked(calls.dn_caller_submit)
-        self._advance, self._wake = asked(calls.dn_caller_advance), asked(calls.dn_caller_wake)
-        self._collect, self._show = asked(calls.dn_caller_collect), asked(calls.dn_caller_show)
+        self._configure = function(calls.dn_caller_configure)
+        self._submit = function(calls.dn_caller_submit)
+        self._advance = function(calls.dn_caller_advance)
+        self._wake = function(calls.dn_caller_wake)
+        self._collect = function(calls.dn_caller_collect)
+        self._show = function(calls.dn_caller_show)
 
     def __reduce__(self) -> NoReturn:
         raise TypeError("a caller is neither copied nor pickled")
 
     def __del__(self) -> None:
-        self._let_go()
+        self._release()
 
-    def _let_go(self) -> None:
+    def _release(self) -> None:
+        """Closes the caller's handle."""
         self._calls.dn_caller_close(self._self)
 
     def _due(self) -> Any:
         succeed(self._collect(self._moment, byref(self._number)))
-        return self._kept(self._calls.dn_caller_deliveries, DELIVERY)
+        return self._last_records(self._calls.dn_caller_deliveries, DELIVERY)
 
     def _flows(self) -> Any:
         succeed(self._show(byref(self._number)))
-        return self._kept(self._calls.dn_caller_flows, FLOW)
+        return self._last_records(self._calls.dn_caller_flows, FLOW)
 
-    def _kept(self, listed: Callable[..., int], layout: Layout) -> Union[Array[c_char], memoryview]:
-        """The records that the last call has left with the caller, as many as it counted."""
-        room = self._number.value
-        if room == 0:
+    def _last_records(self, copy_records: Callable[..., int], layout: Layout) -> Union[Array[c_char], memoryview]:
+        """Returns the records of the last call, which the library keeps for this caller. `copy_records` is the library's function
+        that copies them, and `_number` contains their number."""
+        count = self._number.value
+        if count == 0:
             return NOTHING
-        records = (c_char * (layout.size * room))()
-        succeed(listed(self._self, c_size_t(0), byref(records), c_size_t(room), byref(self._number)))
+        records = (c_char * (layout.size * count))()
+        succeed(copy_records(self._self, c_size_t(0), byref(records), c_size_t(count), byref(self._number)))
         return records
 
 
 class Service(Closing):
     """An emulator shared by a program's threads, each through a caller.
 
-    All callers' calls form one history. `history` sets its file; `take` appends the calls so far, and `close`, or the end of a
-    `with`, appends the rest and the file's end. Without `take`, the entries stay in memory.
+    All callers' calls form a single history. `history` sets its file, `take` appends the calls so far to the file, and `close`, or
+    the end of a `with` block, appends the rest and the file's end. Before a `take`, the entries are in memory.
     """
 
     def __init__(self, callers: int, seed: Optional[int] = None) -> None:
-        """Opens a service of 1 to 15 callers, numbered from 0. `seed` determines the words of packets without one.
+        """Opens a service of 1 to 15 callers, numbered from 0. `seed` determines the random words of packets without a word.
 
         RangeError: the count is outside that range.
         """
         if not 1 <= index(callers) <= MOST_CALLERS:
             raise RangeError(f"callers {callers} isn't in 1 to {MOST_CALLERS}")
-        self._calls, self._turn, self._taken = CDLL(LIBRARY), WaitingTurn(), 0
+        self._calls = CDLL(LIBRARY)
+        self._turn = WaitingTurn()
+        self._taken = 0  # the number of entries that `take` has moved
         self._file: Optional[HistoryFile] = None
-        self._handle, self._handles = Handle(), (Handle * callers)()
-        self._text = (c_char * FIRST_ROOM)()
+        self._handle = Handle()
+        self._handles = (Handle * callers)()  # the callers' handles
+        self._text = (c_char * FIRST_ROOM)()  # the buffer for entries' text
         count = c_size_t(len(self._handles))
         succeed(self._calls.dn_service_open_with_key(byref(self._handle), self._handles, count, *secret()))
-        seeds, calls = Random(seed), PyDLL(LIBRARY)
+        seeds = Random(seed)
+        calls = PyDLL(LIBRARY)
         self.callers = tuple(
             Caller(calls, byref(self._handles, number * sizeof(Handle)), number, seeds.getrandbits(64)) for number in range(callers)
         )
 
     def history(self, path: Union[str, PathLike[str]]) -> None:
-        """Writes all entries taken out from now on to this file, created anew. ValueError: there is a file already, or entries were
-        taken before."""
+        """Sets the history's file, which is created or emptied. ValueError: there is a file already, or `take` has moved entries
+        before."""
         with self._turn:
             if self._file is not None or self._taken:
                 raise ValueError("the history has a file, or a part of it was taken before")
             self._file = HistoryFile(path)
 
     def take(self) -> int:
-        """Moves the calls so far from memory into the history's file, if any; returns the number of entries.
+        """Moves the calls so far from memory into the history's file, if there is one; returns the number of these entries.
 
-        They are in the file afterwards. After an OSError, as on a full disk, the next call writes them.
+        After an OSError, for example on a full disk, the next call writes the entries.
         """
         with self._turn:
             return self._take()
 
     def close(self) -> None:
-        """Takes the rest, completes the history's file, and closes the service and its callers. A second call has no effect.
+        """Writes the rest and the end of the history's file, and closes the service and its callers. A second call has no effect.
 
-        It waits for the calls of other threads. After an OSError the service is unchanged, and `close` can be called again.
-        InUseError: the call would interrupt a call in the same thread, as in a signal handler.
+        The call waits for other threads' calls. After an OSError the service is unchanged, and you can call `close` again.
+        InUseError: the call interrupts a call in the same thread, for example from a signal handler.
         """
         with ExitStack() as turns:
             for turn in (self._turn, *(caller._turn for caller in self.callers)):
@@ -139,21 +151,22 @@ class Service(Closing):
             if self._file is not None:
                 self._file.end(self._taken)
             for caller in self.callers:
-                caller._let_go()
+                caller._release()
             self._calls.dn_service_close(byref(self._handle))
 
     def __del__(self) -> None:
-        # It may run in the midst of a call of this thread, for which it can't wait: each caller lets go by itself.
+        # It may run during a call in this thread, for which it can't wait. So each caller closes its own handle.
         if hasattr(self, "callers"):
             self._calls.dn_service_close(byref(self._handle))
 
     def __repr__(self) -> str:
-        return f"<hingetulip.Service, {'closed' if self.closed else f'{len(self.callers)} callers'}>"
+        state = "closed" if self.closed else f"{len(self.callers)} callers"
+        return f"<hingetulip.Service, {state}>"
 
     def _take(self) -> int:
         start, count = c_uint64(), c_uint64()
         self._write_waiting()
-        succeed(answered(self._calls.dn_service_take, byref(self._handle), byref(start), byref(count), byref(c_uint64())))
+        succeed(retried(self._calls.dn_service_take, byref(self._handle), byref(start), byref(count), byref(c_uint64())))
         self._taken = start.value + count.value
         self._write_waiting()
         if self._file is not None:
@@ -161,7 +174,7 @@ class Service(Closing):
         return count.value
 
     def _write_waiting(self) -> None:
-        """Writes the entries that were taken and not written, as after a write that failed."""
+        """Writes the entries that the service has released and that aren't in the file yet, for example after a failed write."""
         size = c_uint64()
         while True:
             room = c_size_t(len(self._text))

@@ -8,34 +8,37 @@ from struct import error as StructError
 from typing import Any, Callable, Optional
 
 from hingetulip.batches import Deliveries, Fates, Packets
-from hingetulip.calls import NEITHER_OR_BOTH, NOTHING, Calls, Closing, Turn, pack_packet, secret, succeed, unpackable
+from hingetulip.calls import NEITHER_OR_BOTH, NOTHING, Calls, Closing, Turn, pack_packet, secret, succeed, error_of_fields
 from hingetulip.errors import RangeError
-from hingetulip.layout import DELIVERY, FATE, FLOW, Layout
+from hingetulip.layout import DELIVERY, FATE, FLOW, PIPE, QUEUE, Layout
 from hingetulip.library import CALLS, NEW_FLOW, ROOM, Handle, failure
 from hingetulip.records import Rule
 
 
 class Listing:
-    """A library call that lists records, with a buffer that grows on demand."""
+    """A library call that writes records into a buffer, which grows on demand."""
 
     def __init__(self, call: Callable[..., int], layout: Layout, *before: Any) -> None:
-        """`before` are the arguments in front of the list."""
-        self.call, self.size, self.before, self.count = call, layout.size, before, c_uint64()
-        self.room = self.made(64)
+        """Prepares the call for records of this layout. `before` are the arguments before the buffer."""
+        self.call = call
+        self.size = layout.size
+        self.before = before
+        self.count = c_uint64()
+        self.room = self.new_room(64)
 
-    def made(self, count: int) -> tuple[memoryview, tuple[Any, ...]]:
-        """Returns a buffer for records, and the call's arguments. A tuple contains both, so that threads always see a matching
-        pair."""
+    def new_room(self, count: int) -> tuple[memoryview, tuple[Any, ...]]:
+        """Returns a buffer for `count` records, and the call's arguments. A tuple contains both, so that threads always see a
+        matching pair."""
         records = bytearray(self.size * count)
         place = byref((c_char * len(records)).from_buffer(records))
         return memoryview(records), (*self.before, place, c_size_t(count), byref(self.count))
 
     def listed(self) -> memoryview:
-        """Returns a call's records, valid until the next call. A call with too short a buffer does nothing."""
+        """Makes the call, and returns its records, which are valid until the next call."""
         records, arguments = self.room
         status = self.call(*arguments)
-        if status == ROOM:
-            records, arguments = self.room = self.made(max(self.count.value, 2 * len(records) // self.size))
+        if status == ROOM:  # the buffer was too short, and the call did nothing
+            records, arguments = self.room = self.new_room(max(self.count.value, 2 * len(records) // self.size))
             status = self.call(*arguments)
         succeed(status)
         count = self.count.value
@@ -45,22 +48,24 @@ class Listing:
 class Shaper(Calls, Closing):
     """An independent emulator, at first without pipes.
 
-    Threads may use it in turn; a call during another one raises InUseError. Its clock starts at 0 ns, and advances to each later
-    moment of a call. A call with an earlier moment counts as made at the clock's. `close`, the end of a `with` or the last
-    reference's end closes the shaper.
+    Threads may use it in turn; a call during another call raises InUseError. The clock starts at 0 ns, and advances to each later
+    moment of a call. A call with an earlier moment has its effect at the clock. `close`, the end of a `with` block or the end of
+    the last reference closes the shaper.
     """
 
     def __init__(self, rule: Rule = Rule.ORDERED, seed: Optional[int] = None) -> None:
-        """`rule` determines the order of a link's packets. `seed` determines the words of packets without one. RangeError: there is
-        no such rule."""
+        """Opens a shaper. `rule` determines the order of a link's packets, and `seed` the words of packets without a word.
+        RangeError: there is no such rule."""
         if rule not in (Rule.ORDERED, Rule.FREE):
             raise RangeError(f"rule {rule!r} is neither ORDERED nor FREE")
-        self.__del__()  # of an earlier call of __init__
+        self.__del__()  # closes the handle of an earlier call of __init__
         super().__init__(Turn(), seed)
         self._handle = Handle()
         self._self = byref(self._handle)
-        self._configure, self._advance = partial(CALLS.dn_configure, self._self), partial(CALLS.dn_advance, self._self)
-        self._submit, self._wake = CALLS.dn_submit, partial(CALLS.dn_wake, self._self)
+        self._configure = partial(CALLS.dn_configure, self._self)
+        self._advance = partial(CALLS.dn_advance, self._self)
+        self._submit = CALLS.dn_submit
+        self._wake = partial(CALLS.dn_wake, self._self)
         self._submitted = self._self, *self._submitted
         self._collected = Listing(CALLS.dn_collect, DELIVERY, self._self, self._moment)
         self._shown = Listing(CALLS.dn_show, FLOW, self._self)
@@ -81,23 +86,23 @@ class Shaper(Calls, Closing):
             CALLS.dn_close(self._self)
 
     def submit_many(self, packets: Packets) -> Fates:
-        """Returns the fates of packets that arrive in order, as with `submit`, from a single, much faster library call.
+        """Submits packets in order, as `submit` does, with a single, much faster library call; returns their fates.
 
-        If one fails, no later one arrives, and the exception's `fates` contains the fates before it.
+        If a packet fails, no later packet arrives, and the exception's `fates` contains the fates of the packets before it.
         """
         count = len(packets)
         if packets.draws:
             packets.word[:] = memoryview(self._random.randbytes(4 * count)).cast("I")
         fates = bytearray(FATE.size * count)
-        given, written = (byref((c_char * len(records)).from_buffer(records)) for records in (packets.records, fates))
+        sources, results = (byref((c_char * len(records)).from_buffer(records)) for records in (packets.records, fates))
         with self._turn:
-            status = CALLS.dn_submit_many(self._self, given, c_size_t(count), written, c_size_t(count), byref(self._number))
-            answered = Fates(memoryview(fates)[: FATE.size * self._number.value])
+            status = CALLS.dn_submit_many(self._self, sources, c_size_t(count), results, c_size_t(count), byref(self._number))
+            of_arrivals = Fates(memoryview(fates)[: FATE.size * self._number.value])
         if status:
             error = failure(status)
-            error.fates = answered
+            error.fates = of_arrivals
             raise error
-        return answered
+        return of_arrivals
 
     def reserve(
         self,
@@ -110,27 +115,29 @@ class Shaper(Calls, Closing):
         sport: int = 0,
         dport: int = 0,
     ) -> bool:
-        """Reserves memory for a coming packet; returns whether that succeeded. It can't succeed before a flow's first packet.
+        """Reserves memory for a coming packet, and returns True. Before a packet of the same flow, or after 2^62 calls, the call
+        can't reserve memory, and returns False.
 
-        Then `submit` with such a packet, whatever its length, allocates no memory, if only `advance`, `collect`, `show`, `wake`,
-        `reserve` and `submit` for other flows' packets precede it. The call changes nothing else. RangeError: a number is outside
-        its range. TypeError: there is no target, or two.
+        Afterwards `submit` with this packet, whatever its length, allocates no memory, if only `advance`, `collect`, `show`,
+        `wake`, `reserve` and `submit` for other flows' packets precede it. The call changes nothing else. RangeError: a number is
+        outside its range. TypeError: there is no target, or two. OutOfMemoryError: the system refuses memory.
         """
         if (pipe is None) == (queue is None):
             raise TypeError(NEITHER_OR_BOTH)
-        number, kind = (queue, 1) if pipe is None else (pipe, 0)
+        number, kind = (queue, QUEUE) if pipe is None else (pipe, PIPE)
         with self._turn:
             try:
                 pack_packet(self._packet, 0, 0, src, dst, 0, sport, dport, 1, number, kind, proto)
             except StructError:
-                raise unpackable(src=src, dst=dst, sport=sport, dport=dport, number=number, proto=proto) from None
+                raise error_of_fields(src=src, dst=dst, sport=sport, dport=dport, number=number, proto=proto) from None
             status: int = CALLS.dn_reserve(self._self, byref(self._packet))
         if status != NEW_FLOW:
             succeed(status)
         return status != NEW_FLOW
 
     def collect_many(self, moment: int) -> Deliveries:
-        """Returns the same as `collect`, kept in the library's format and read by columns."""
+        """Moves the clock forward to `moment` ns, and returns the packets that are due, as `collect` does, but in the library's
+        format, whose columns you can read at once."""
         with self._turn:
             self._set_moment(moment)
             return Deliveries(bytearray(self._collected.listed()))

@@ -1,1 +1,2 @@
-"""The words that describe links, and advice on wrong ones. `hinge` and `hingetulip` both need them, and neither needs the other."""
+"""The words that describe links, and advice on wrong words. `hinge` and `hingetulip` share this package, and don't need each other.
+"""

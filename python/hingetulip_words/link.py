@@ -1,5 +1,4 @@
-"""The words of links: `10Mbit/s 20ms queue 100 loss 1%`, or ipfw's options in full. This is the only reader, for `hinge run`, nets,
-timelines, changes, presets, marks of tests and hingetulip.aio."""
+"""Reads the words of links, such as `10Mbit/s 20ms queue 100 loss 1%`, or ipfw's options in full."""
 
 from __future__ import annotations
 
@@ -8,38 +7,26 @@ from enum import Enum
 from fractions import Fraction
 from typing import NamedTuple, Optional, Sequence
 
-from hingetulip_words.advice import OPTIONS_OF, OTHER_NAMES, left_out, missing_value, option_word
-from hingetulip_words.foreign import Meant
-from hingetulip_words.presets import NEAREST, PRESETS
-from hingetulip_words.values import DELAY as DELAY_WORD
-from hingetulip_words.values import EXTRAS, FACTOR, FIELD_BITS, LONGEST_WORD, PER_SECOND, PERCENT, SHARES, TIMES
-from hingetulip_words.values import Advice, value_fault, decimal, wrong_form
+from hingetulip_words.advice import OPTIONS_OF, OTHER_NAMES, left_out, missing_value
+from hingetulip_words.foreign import netem_link
+from hingetulip_words.values import EXTRAS, FIELD_BITS, LONGEST_WORD, PERCENT, Advice, value_fault, decimal
+from hingetulip_words.wrong_words import WHOLE_DELAY, JITTER, MISSING, MOST_JITTER, OF_RUNS, ONE_WORD, WHOLE_RATE, REORDER, UNIT
+from hingetulip_words.wrong_words import Context, second_word, wrong_loss, wrong_word
 
-WHOLE_RATE = re.compile(rf"\d+{FACTOR}{PER_SECOND}", re.ASCII | re.IGNORECASE)
-WHOLE_DELAY = re.compile(r"\d+ms", re.ASCII)
-LIKE_A_DELAY = f"(?ai){DELAY_WORD}"
-LIKE_ROOM = r"(?ai)\d+(pkts?|packets?|p|slots?|[km]?bytes?|kb|kib|mib)"
-AROUND = r"(\d+)ms(?: ?(?:±|\+/?-) ?| )(\d+)ms"  # as netem's `20ms 5ms`
-SPAN = r"(\d+)(?:ms)?(?:-|\.\.+)(\d+)ms"
-UNIT = rf"(?ai){FACTOR}(bits?|bytes?|bps|b)(/s|ps)?|{'|'.join(TIMES)}|%"
-LINE = ("ipfw", "pipe", "config")
-NETEMS = {"rate", "limit", "netem"}  # words that netem has, and no link
+LINE = ("ipfw", "pipe", "config")  # words of a configuration line in front of a link's words
+# Options of ipfw(8) that dummynet here leaves out.
 LEFT_OUT = ("red", "gred", "ecn", "codel", "pie", "fq_codel", "fq_pie", "sched", "burst", "profile", "noerror", "droptail")
 LIKE_A_LINE = Advice("a link has the options alone", "leave out all before them, or give the whole line by --line")
-WRITTEN = r"write ([^,;()]+)"
-MOST_CORRECTIONS = 12  # of one text
+REPLACEMENT = r"write ([^,;()]+)"  # advice that contains a single replacement
+MOST_CORRECTIONS = 12  # the most words that are replaced in a text
 NO_WORDS = "no words of a link (example: 10Mbit/s 20ms)"
-MOST_JITTER = 1000  # ms: each has a pipe of its own
-CERTAIN = 2**31
-JITTER = "write jitter 5ms, a whole number from 1ms to 1000ms"
-# How a change says that a link has no such option.
-ENDED = {"bw": "bw 0", "delay": "delay 0", "queue": "queue 50", "plr": "loss 0%"}
-MISSING = {"loss": "write loss 1%"} | {word: f"write {word} {example}" for word, example in EXTRAS.items()} | {"jitter": JITTER}
-NAMES = {"bw": "bandwidth", "queue": "queue limit", "plr": "loss rate", "buckets": "number of buckets"}
+CERTAIN = 2**31  # the number for the chance 1
+ENDED = {"bw": "bw 0", "delay": "delay 0", "queue": "queue 50", "plr": "loss 0%"}  # the words by which a change ends an option
 
 
 class Place(Enum):
-    """The place of a link's words. Jitter, duplicates and flipped bits aren't dummynet's: a run adds them from its start."""
+    """The kind of text that contains a link's words. Dummynet has neither jitter nor duplicates nor flipped bits: a run adds these
+    effects, from its start."""
 
     DUMMYNET = "dummynet"
     RUN = "run"
@@ -47,154 +34,130 @@ class Place(Enum):
     CHANGE = "change"
 
 
-REORDER = Advice("no link reorders by a share", "write jitter 5ms, by which packets overtake each other")
-ONE_WAY = Advice("one way of a link", "write --up LINK --down LINK, or LINK / LINK in a net's line")
-ONE_WORD = Advice("a number and its unit are one word", "")
-OF_RUNS = Advice("of a whole run", "write it in --up, --down or a line `link`, from the beginning on")
-
-
 class WordError(ValueError):
     """Raised for a word that isn't a link's. The text contains the word as typed, and advice."""
 
     def __init__(self, word: str, advice: Advice) -> None:
         super().__init__(f"'{word}': {advice.wrong}; {advice.right}")
-        self.word, self.advice = word, advice
+        self.word = word
+        self.advice = advice
 
     def right(self) -> Optional[str]:
-        """Returns the word's replacement, if the advice contains a single one."""
-        write = re.fullmatch(WRITTEN, self.advice.right)
-        return write[1] if write else self.advice.word
+        """Returns the word's replacement, or None if the advice leaves a choice."""
+        replacement = re.fullmatch(REPLACEMENT, self.advice.right)
+        return replacement[1] if replacement else self.advice.word
 
 
 class Extra(NamedTuple):
-    """A run's additions to dummynet: the maximum random delay in ms, and the chances (of 2^31) that a packet is doubled, or that one
-    of its bits is flipped."""
+    """The effects that a run adds to dummynet's."""
 
-    jitter: int = 0
-    duplicate: int = 0
-    corrupt: int = 0
+    jitter: int = 0  # the maximum random delay in ms
+    duplicate: int = 0  # the chance, of 2^31, that a packet is doubled
+    corrupt: int = 0  # the chance, of 2^31, that one of a packet's bits is flipped
 
     @property
     def pipes(self) -> int:
-        """Returns the number of pipes for second passes."""
+        """Returns the number of pipes through which delayed packets pass a second time."""
         return self.jitter + 1 if self.jitter else 0
 
 
 class LinkWords(NamedTuple):
     """The content of a link's words."""
 
-    options: dict[str, str]  # by ipfw's names, in the order in which they were given
+    options: dict[str, str]  # the values by ipfw's names, in the order of the text
     extra: Extra
 
     def line(self, pipe: int) -> str:
-        """The configuration line of a pipe with these options."""
+        """Returns the configuration line that gives a pipe these options."""
         return f"pipe {pipe} config {in_full(self.options)}".strip()
 
 
-def number_alone(word: str, following: str) -> tuple[str, Advice]:
-    """Returns the wrong word and the advice for a number without a unit. If the next word is a unit, the advice is to join the
-    two words.
-    """
-    if not re.fullmatch(UNIT, following):
-        return word, Advice("a number without a unit", f"write {word}ms for a delay, {word}Mbit/s for a bandwidth or queue {word}")
-    joined = word + following
-    if not (WHOLE_RATE.fullmatch(joined) or WHOLE_DELAY.fullmatch(joined)):
-        joined = advice_on_value(joined).word or joined
-    return f"{word} {following}", ONE_WORD._replace(right=f"write {joined}")
-
-
-def advice_on_value(word: str) -> Advice:
-    """Of a word that begins with a digit and is no short form."""
-    parts = [part for part in re.split("[,;]|/(?!s|$)", word) if part]
-    if len(parts) > 1:
-        is_of_ways = any(all(map(form.fullmatch, parts)) for form in (WHOLE_RATE, WHOLE_DELAY))
-        return ONE_WAY if is_of_ways else Advice("blanks alone part the words", f"write {' '.join(parts)}")
-    if spread := re.fullmatch(AROUND, word):
-        return Advice("a jitter adds to the delay", f"write {around(spread)}")
-    if (span := re.fullmatch(SPAN, word)) and 0 < int(span[2]) - int(span[1]) <= MOST_JITTER:
-        return Advice("a jitter adds to the delay", f"write {span[1]}ms jitter {int(span[2]) - int(span[1])}ms")
-    if PERCENT.fullmatch(word):
-        return Advice("a percentage of what", f"write loss {word}")
-    if re.fullmatch(LIKE_A_DELAY, word):
-        return wrong_form("delay", word)
-    if re.fullmatch(LIKE_ROOM, word):
-        limit = wrong_form("queue", word.lower())
-        right = f"queue {limit.word}"
-        return Advice("a queue limit has its word before it", f"write {right}", right) if limit.word else limit
-    return wrong_form("bw", word)
-
-
-class WordReader:
-    """The words of a text, read from left to right into `options` by full name, and `extra`."""
+class LinkParser:
+    """Reads a link's words from left to right: dummynet's options into `options`, by their full names, and other effects into
+    `extra`."""
 
     def __init__(self, text: str, kind: str, place: Place) -> None:
-        self.kind, self.place, self.names = kind, place, [name for name in OPTIONS_OF[kind] if name != "pipe"]
-        self.rest = text.partition("#")[0].split()
+        """Prepares the words before a comment. `kind` is `pipe` or `queue`, and `place` decides which effects may be added."""
+        self.kind = kind
+        self.place = place
+        self.option_names = [name for name in OPTIONS_OF[kind] if name != "pipe"]
+        self.remaining = text.partition("#")[0].split()
         self.options: dict[str, str] = {}
         self.extra = Extra()
-        self.typed: dict[str, str] = {}
-        self.before = ""
+        self.typed: dict[str, str] = {}  # each option's words as the user typed them
+        self.previous = ""  # the last word of the option before
 
     def read(self) -> LinkWords:
-        while self.rest:
-            self.read_one(self.rest.pop(0))
+        """Returns the link. WordError: a word isn't a link's, or its value is wrong."""
+        while self.remaining:
+            self.read_option(self.remaining.pop(0))
         return LinkWords(self.options, self.extra)
 
-    def note(self, name: str, typed: str) -> None:
-        """Refuses a second word of a kind."""
+    def record(self, name: str, typed: str) -> None:
+        """Records an option as read. WordError: the text has this option already."""
         if name in self.typed:
-            spread = re.fullmatch(AROUND, f"{self.typed[name]} {typed}")
-            right = "write one of them" + (f", or {around(spread)}" if spread and "jitter" in around(spread) else "")
-            raise WordError(typed, Advice(f"a second {NAMES.get(name, name)} beside '{self.typed[name]}'", right))
-        self.typed[name], self.before = typed, typed.split()[-1]
+            raise WordError(typed, second_word(name, self.typed[name], typed))
+        self.typed[name] = typed
+        self.previous = typed.split()[-1]
 
-    def put(self, name: str, text: str, typed: str) -> None:
-        self.note(name, typed)
+    def set_option(self, name: str, text: str, typed: str) -> None:
+        """Sets an option to a value; `typed` is the user's text. WordError: the text has this option already."""
+        self.record(name, typed)
         self.options[name] = text
 
-    def check(self, name: str, text: str, typed: str) -> str:
-        """Returns a value of an option if it is correct; `typed` is the user's text for both."""
+    def check(self, name: str, text: str, typed: str) -> None:
+        """Checks an option's value. WordError: the value is wrong; the error quotes `typed`, the user's text for the option."""
         if fault := value_fault(name, text):
             raise WordError(typed, fault)
-        return text
+
+    def following(self) -> str:
+        """Returns the next word, which stays unread; an empty text at the end."""
+        return self.remaining[0] if self.remaining else ""
 
     def value_of(self, word: str) -> str:
-        if not self.rest:
+        """Reads the value after an option's word, and returns it. WordError: no word follows, or a blank separates the value from
+        its unit."""
+        if not self.remaining:
             advice = missing_value(word)
             raise WordError(word, advice._replace(right=MISSING.get(word, advice.right)))
-        text = self.rest.pop(0)
-        if text.replace(".", "", 1).isdigit() and self.rest and re.fullmatch(UNIT, self.rest[0]):
-            raise WordError(f"{text} {self.rest[0]}", ONE_WORD._replace(right=f"write {text}{self.rest[0]}"))
+        text = self.remaining.pop(0)
+        unit = self.following()
+        if text.replace(".", "", 1).isdigit() and re.fullmatch(UNIT, unit):
+            raise WordError(f"{text} {unit}", ONE_WORD._replace(right=f"write {text}{unit}"))
         return text
 
-    def read_one(self, word: str) -> None:
+    def read_option(self, word: str) -> None:
+        """Reads the option that begins with this word. WordError: the word isn't a link's, or its value is wrong."""
         if word == "mask":
             fields = self.fields()
-            self.put(word, fields, f"{word} {fields}")
-        elif word in self.names:
+            self.set_option(word, fields, f"{word} {fields}")
+        elif word in self.option_names:
             text = self.value_of(word)
-            self.put(word, self.check(word, text, f"{word} {text}"), f"{word} {text}")
-        elif WHOLE_RATE.fullmatch(word) and "bw" in self.names:
-            self.put("bw", self.check("bw", word, word), word)
-        elif WHOLE_DELAY.fullmatch(word) and "delay" in self.names:
-            self.put("delay", self.check("delay", word, word), word)
+            self.check(word, text, f"{word} {text}")
+            self.set_option(word, text, f"{word} {text}")
+        elif WHOLE_RATE.fullmatch(word) and "bw" in self.option_names:
+            self.check("bw", word, word)
+            self.set_option("bw", word, word)
+        elif WHOLE_DELAY.fullmatch(word) and "delay" in self.option_names:
+            self.check("delay", word, word)
+            self.set_option("delay", word, word)
         elif word == "loss":
             text = self.value_of(word)
-            self.put("plr", self.part_of_one(text), f"{word} {text}")
+            self.set_option("plr", self.loss_rate(text), f"{word} {text}")
         elif word in (*EXTRAS, "reorder") and self.place is not Place.DUMMYNET:
             self.read_extra(word)
         else:
-            raise self.refused(word)
+            raise self.refusal_of(word)
 
     def read_extra(self, word: str) -> None:
-        """Reads a word of a run's additions to dummynet."""
+        """Reads an effect that a run adds to dummynet's. WordError: this text can't add the effect, or its value is wrong."""
         if word == "reorder" or self.place is Place.CHANGE:
             raise WordError(word, REORDER if word == "reorder" else OF_RUNS)
         text = self.value_of(word)
         typed = f"{word} {text}"
         if word == "corrupt" and self.place is Place.RUN:
             raise WordError(typed, Advice("no packet has a checksum here, which would discard it", f"write loss {text}"))
-        self.note(word, typed)
+        self.record(word, typed)
         if word == "jitter":
             if not WHOLE_DELAY.fullmatch(text) or not 1 <= int(text[:-2]) <= MOST_JITTER:
                 raise WordError(typed, Advice("not a jitter", JITTER))
@@ -205,91 +168,57 @@ class WordReader:
                 raise WordError(typed, Advice("not a share of the packets", MISSING[word]))
             self.extra = self.extra._replace(**{word: round(float(share[1]) * CERTAIN / 100)})
 
-    def part_of_one(self, text: str) -> str:
-        """Returns a percentage as a fraction for `plr`."""
+    def loss_rate(self, text: str) -> str:
+        """Returns a percentage as the fraction that `plr` expects. WordError: the text isn't a percentage, or is above 100%."""
         share = PERCENT.fullmatch(text)
         if not share:
-            right = "write it as loss 1%"
-            if re.fullmatch(r"\d*\.?\d+", text, re.ASCII):
-                right = f"write loss {text}%" + f", or plr {text} for a part of one" * (float(text) <= 1)
-            raise WordError(f"loss {text}", Advice("a loss is a percentage here", right))
-        part = Fraction(share[1]) / 100
-        if part > 1:
+            raise WordError(f"loss {text}", wrong_loss(text))
+        rate = Fraction(share[1]) / 100
+        if rate > 1:
             raise WordError(f"loss {text}", Advice("out of range", "a loss is 0% to 100%"))
-        return decimal(part)
+        return decimal(rate)
 
     def fields(self) -> str:
-        """Returns the fields of a mask with their values."""
+        """Reads the fields of a mask, each with its value, and returns their text. WordError: there is no field, or a value is
+        wrong."""
         fields: list[str] = []
-        while self.rest and (self.rest[0] == "all" or self.rest[0] in FIELD_BITS):
-            fields.append(field := self.rest.pop(0))
+        while self.following() == "all" or self.following() in FIELD_BITS:
+            field = self.remaining.pop(0)
+            fields.append(field)
             if field != "all":
-                fields.append(self.check(field, text := self.value_of(field), f"{field} {text}"))
+                text = self.value_of(field)
+                self.check(field, text, f"{field} {text}")
+                fields.append(text)
         if not fields:
-            raise WordError(" ".join(["mask", *self.rest[:1]]), missing_value("mask", self.rest[0] if self.rest else ""))
+            raise WordError(f"mask {self.following()}".strip(), missing_value("mask", self.following()))
         return " ".join(fields)
 
-    def refused(self, word: str) -> WordError:
-        """Returns the error for an unknown word."""
+    def refusal_of(self, word: str) -> WordError:
+        """Returns the error for a word that isn't a link's."""
         if word in LINE:
             return WordError(word, LIKE_A_LINE)
         if word in LEFT_OUT:
             return WordError(word, left_out("", word))
-        if word != (bare := word.rstrip(",;")):
+        bare = word.rstrip(",;")
+        if word != bare:
             return WordError(word, Advice(f"ends in {word[len(bare):]!r}, and blanks alone part the words", f"write {bare}"))
         name = OTHER_NAMES.get(word.lower(), "")
-        if name and self.typed.get(name) == self.before:
-            return WordError(f"{self.before} {word}", Advice("the unit says this already", f"write {self.before}"))
-        if word.partition("=")[0] in ("up", "down", "/"):
-            return WordError(word, self.one_way(ONE_WAY))
-        if word.isdigit():
-            return WordError(*number_alone(word, self.rest[0].rstrip(",;") if self.rest else ""))
-        following = self.rest[0] if self.rest else ""
-        is_preset = {word.lower(), f"{word}-{following}".lower()} & {*PRESETS, *NEAREST}
-        if word in ("rtt", "±", "+-", "+/-") or PERCENT.fullmatch(word) or is_preset:
-            return self.of_two(word, following)
-        is_value = word[:1].isdigit() or re.match(r"[-.]\d", word)
-        more = ["loss"] if self.place is Place.DUMMYNET else [*MISSING]
-        return WordError(word, self.one_way(advice_on_value(word)) if is_value else option_word(self.kind, self.before, word, more))
-
-    def one_way(self, advice: Advice) -> Advice:
-        is_change = advice is ONE_WAY and self.place is Place.CHANGE
-        return advice._replace(right="write up LINK, and down LINK in a line of its own") if is_change else advice
-
-    def of_two(self, word: str, following: str) -> WordError:
-        """Returns the error for a word that includes the next one, or for a preset's name."""
-        half = re.fullmatch(r"(\d*[02468])ms", following)
-        if word == "rtt":
-            right = f"write {int(half[1]) // 2}ms" if half else "write half of it, as 20ms"
-            return WordError(f"{word} {following}".strip(), Advice("a link has the delay of one way", right))
-        if spread := re.fullmatch(AROUND, f"{self.before} {word} {following}"):
-            return WordError(spread[0], Advice("a jitter adds to the delay", f"write {around(spread)}"))
-        if PERCENT.fullmatch(word) and following in ("loss", *SHARES):
-            return WordError(f"{word} {following}", Advice("the name stands before its value", f"write {following} {word}"))
-        for typed in (f"{word} {following}".strip(), word):
-            if name := (NEAREST | {one: one for one in PRESETS}).get("-".join(typed.lower().split())):
-                right = f"write --preset {name}, or preset {name} in a net's line"
-                right = f"write {PRESETS[name].up}" if self.place is Place.CHANGE else right
-                return WordError(typed, Advice("the name of a preset, and no word of a link", right))
-        return WordError(
-            word, advice_on_value(word) if word[0].isdigit() else Advice("not an option", f"write jitter {following or '5ms'}")
-        )
-
-
-def around(spread: re.Match[str]) -> str:
-    """Returns a link's words for a delay with a symmetric deviation."""
-    delay_ms, off = int(spread[1]), int(spread[2])
-    return f"{delay_ms - off}ms jitter {2 * off}ms" if 0 < off < delay_ms else f"{delay_ms}ms"
+        if name and self.typed.get(name) == self.previous:
+            return WordError(f"{self.previous} {word}", Advice("the unit says this already", f"write {self.previous}"))
+        further = ["loss"] if self.place is Place.DUMMYNET else [*MISSING]
+        context = Context(self.kind, self.previous, self.following(), self.place is Place.CHANGE, further)
+        return WordError(*wrong_word(word, context))
 
 
 def read_words(text: str, place: Place, kind: str = "pipe") -> LinkWords:
-    """Returns the content of a link's words at a place, for a pipe or a queue.
+    """Returns the content of a link's words, of a `pipe` or a `queue`, in a text of the kind `place`.
 
-    WordError: a word isn't a link's there, or repeats another.
+    WordError: a word isn't a link's in such a text, or repeats another.
     """
-    if long := next((word for word in text.split() if len(word) > LONGEST_WORD), ""):
-        raise WordError(f"{long[:20]} ..", Advice(f"a word of {len(long):,} letters", f"at most {LONGEST_WORD} are taken"))
-    return WordReader(text, kind, place).read()
+    for word in text.split():
+        if len(word) > LONGEST_WORD:
+            raise WordError(f"{word[:20]} ..", Advice(f"a word of {len(word):,} letters", f"at most {LONGEST_WORD} are taken"))
+    return LinkParser(text, kind, place).read()
 
 
 def read_link(text: str, kind: str = "pipe") -> dict[str, str]:
@@ -301,27 +230,24 @@ def read_link(text: str, kind: str = "pipe") -> dict[str, str]:
 
 
 def corrected(text: str, place: Place = Place.KERNELS, kind: str = "pipe") -> Optional[str]:
-    """Returns the likely intended words: netem's converted, or the words with advised replacements."""
-    text = " ".join(word.rstrip(",;") for word in text.partition("#")[0].split())
-    words = text.split()
-    netem = Meant("netem", words[words.index("netem") + 1 :] if "netem" in words else words)
-    link = netem.options()
-    if (NETEMS & {*words} or (words[:1] == ["delay"] and len(words) > 2)) and link[:1] == ["--up"] and not netem.left:
-        text = link[1]
+    """Returns the words that the user probably meant: netem's words converted, or each wrong word replaced as advised. Returns None
+    if some advice leaves a choice."""
+    words = [word.rstrip(",;") for word in text.partition("#")[0].split()]
+    text = netem_link(words) or " ".join(words)
     for _ in range(MOST_CORRECTIONS):
         try:
             read_words(text, place, kind)
             return text
-        except WordError as wrong:
-            right = wrong.right()
-            if right is None or right == wrong.word or f" {wrong.word} " not in f" {text} ":
+        except WordError as error:
+            replacement = error.right()
+            if replacement is None or replacement == error.word or f" {error.word} " not in f" {text} ":
                 return None
-            text = f" {text} ".replace(f" {wrong.word} ", f" {right} ", 1).strip()
+            text = f" {text} ".replace(f" {error.word} ", f" {replacement} ", 1).strip()
     return None
 
 
 def link_before(words: Sequence[str]) -> tuple[str, list[str]]:
-    """Returns the link in the first words before a `--` or an option, or an empty text, and the words behind it."""
+    """Returns the link in the first words before a `--` or an option, or an empty text, and the words after the link."""
     most = next((place for place, word in enumerate(words) if word.startswith("--")), len(words))
     for count in range(most, 0, -1):
         if link := corrected(" ".join(words[:count])):
@@ -330,19 +256,30 @@ def link_before(words: Sequence[str]) -> tuple[str, list[str]]:
 
 
 def refusal_of_change(begun: dict[str, str], changed: dict[str, str], place: str = "{}") -> str:
-    """Returns why a change with these options is refused, because the change leaves out an option that the link has at its
-    beginning, and the right words; otherwise an empty text. `place` contains the words before those of the link."""
+    """Returns why a change to the options `changed` is refused, with the right words; an empty text for a permitted change.
 
-    def spelled(options: dict[str, str]) -> str:
-        texts = {name: f"{text}ms" if name == "delay" and text.isdigit() else text for name, text in options.items()}
-        return " ".join(
-            f"loss {decimal(Fraction(text) * 100)}%" if name == "plr" else as_words(name, text) for name, text in texts.items()
-        )
-
+    A change is refused if it leaves out an option that the link has at its beginning (`begun`). `place` is the text around the
+    link's words, which replace `{}`.
+    """
     ended = {name: begun[name] for name in ENDED if name not in changed and re.search("[1-9]", begun.get(name, ""))}
-    whole, ends = place.format(spelled({**ended, **changed})), " ".join(ENDED[name] for name in ended)
-    why = f"a change replaces the whole link, and this one leaves out {spelled(ended)}; write {whole}, or {ends} to end it"
-    return why if ended else ""
+    if not ended:
+        return ""
+    whole = place.format(in_short({**ended, **changed}))
+    ends = " ".join(ENDED[name] for name in ended)
+    return f"a change replaces the whole link, and this one leaves out {in_short(ended)}; write {whole}, or {ends} to end it"
+
+
+def in_short(options: dict[str, str]) -> str:
+    """Returns options as short words: `10Mbit/s 20ms loss 1%`."""
+    words = []
+    for name, text in options.items():
+        if name == "plr":
+            words.append(f"loss {decimal(Fraction(text) * 100)}%")
+        elif name == "delay" and text.isdigit():
+            words.append(f"{text}ms")
+        else:
+            words.append(as_words(name, text))
+    return " ".join(words)
 
 
 def as_words(name: str, text: str) -> str:
@@ -353,5 +290,5 @@ def as_words(name: str, text: str) -> str:
 
 
 def in_full(options: dict[str, str]) -> str:
-    """The options as the words of a configuration line."""
+    """Returns the options as the words of a configuration line."""
     return " ".join(f"{name} {text}" for name, text in options.items())

@@ -1,7 +1,8 @@
-"""Links by familiar names, with both ways and the source of the figures.
+"""Presets: links with familiar names, each with both ways (directions) and the source of the figures.
 
-If the source gives a round trip, each way gets half. No source states queues: queues hold about 250 ms of traffic, in multiples of
-ten packets of 1,500 bytes, from 10 to 1,000. Real links vary, so a preset is a starting point, not a measurement.
+If the source states a round trip's delay, each way has half of it. No source states queues: a queue holds 10 to 1,000 packets, a
+multiple of ten that stores about 250 ms of traffic in packets of 1,500 bytes. Real links vary, so a preset is a starting point, not
+a measurement.
 """
 
 from __future__ import annotations
@@ -10,11 +11,11 @@ from typing import NamedTuple, Optional
 
 
 class Preset(NamedTuple):
-    """Two links: `up` to the server, and `down` from it."""
+    """The words for both ways of a link."""
 
-    up: str
-    down: str
-    source: str
+    up: str  # to the server
+    down: str  # from the server
+    source: str  # the origin of the figures
 
 
 PAGE, APPLE = "WebPageTest's profile", "Apple's Network Link Conditioner,"
@@ -37,42 +38,54 @@ PRESETS = {
     "bad": Preset("1Mbit/s 500ms queue 20 loss 10%", "1Mbit/s 500ms queue 20 loss 10%", f"{APPLE} Very Bad Network"),
     "lan": Preset("1Gbit/s queue 1000", "1Gbit/s queue 1000", "Gigabit Ethernet, whose delay is far below a millisecond"),
 }
-# Other names of links, and the preset that is nearest.
+# Each preset, with the names of links that it resembles most.
 OTHER_PRESETS = """dialup=modem,isdn edge=2g,gprs,gsm 3g=umts,hspa,hsdpa 4g=mobile,cellular,phone lte=5g,nr dsl=adsl,vdsl,broadband
 cable=docsis,home fibre=ftth,fios,fiber satellite=starlink,leo,sat geo=viasat,geostationary,vsat
 lossy-wifi=wifi,wi-fi,wlan,wireless,lossy bad=train,terrible,poor,worst lan=ethernet,gigabit,wired,datacenter,datacentre,local"""
-NEAREST = {name: own for own, _, names in (entry.partition("=") for entry in OTHER_PRESETS.split()) for name in names.split(",")}
+NEAREST = dict[str, str]()  # the presets by these other names
+for entry in OTHER_PRESETS.split():
+    nearest, _, names = entry.partition("=")
+    NEAREST.update(dict.fromkeys(names.split(","), nearest))
 
 
 def near(name: str) -> str:
-    """Returns the preset that a name resembles or means; an empty text if none."""
-    import difflib  # which a wrong name alone needs
+    """Returns the preset that a name resembles or means; an empty text if there is none."""
+    import difflib  # only a wrong name needs this module
 
     plain = "-".join(name.lower().replace("_", " ").split())
     return NEAREST.get(plain) or "".join(difflib.get_close_matches(plain, PRESETS, 1))
 
 
 def preset(name: str) -> Preset:
-    """Returns the links of a name, in either case. ValueError: there is no such preset."""
+    """Returns the preset with a name, in upper or lower case. ValueError: there is no such preset."""
     plain = "-".join(name.lower().split())
     if plain in PRESETS:
         return PRESETS[plain]
-    ways = "write --list-presets" if plain in ("list", "help", "all") else f"write one of {', '.join(PRESETS)}"
-    raise ValueError(f"'{name}': not a preset; {f'write {near(name)}' if near(name) else ways}")
+    if nearest := near(name):
+        advice = f"write {nearest}"
+    elif plain in ("list", "help", "all"):
+        advice = "write --list-presets"
+    else:
+        advice = f"write one of {', '.join(PRESETS)}"
+    raise ValueError(f"'{name}': not a preset; {advice}")
 
 
 def either_way(name: str, up: Optional[str] = None, down: Optional[str] = None) -> tuple[str, str]:
-    """Returns the two links of a name, where not replaced. ValueError: there is no such preset."""
-    found = preset(name)
-    return found.up if up is None else up, found.down if down is None else down
+    """Returns a preset's words for both ways; `up` and `down` replace them. ValueError: there is no such preset."""
+    links = preset(name)
+    up_words = links.up if up is None else up
+    down_words = links.down if down is None else down
+    return up_words, down_words
 
 
 def preset_table() -> str:
-    """All presets, in lines of at most 80 columns."""
+    """Returns a table of all presets, in lines of at most 80 columns."""
     rows = [("preset", "up", "down", ""), *((name, *links) for name, links in PRESETS.items())]
-    of_name, of_up = (max(len(row[place]) for row in rows) for place in range(2))
-    lines = (
-        f"{name:<{of_name}}  {up:<{of_up}}  {down}" + f"\n{'':<{of_name}}  {source}" * bool(source)
-        for name, up, down, source in rows
-    )
+    name_width = max(len(name) for name, _, _, _ in rows)
+    up_width = max(len(up) for _, up, _, _ in rows)
+    lines = []
+    for name, up, down, source in rows:
+        lines.append(f"{name:<{name_width}}  {up:<{up_width}}  {down}")
+        if source:
+            lines.append(f"{'':<{name_width}}  {source}")
     return "\n".join(lines)

@@ -155,7 +155,7 @@ class WithClock(WithFolder):
         made = os.environ.get("HINGE_CLOCK") or f"{self.folder}/hinge-clock.so"
         if not os.environ.get("HINGE_CLOCK"):
             flags = ["-std=c17", "-O2", "-Wall", "-Wextra", "-Werror", "-shared", "-fPIC"]
-            subprocess.run(["cc", *flags, TOP / "hosts" / "clock.c", "-o", made], check=True)
+            subprocess.run(["cc", *flags, *(TOP / "hosts").glob("clock*.c"), "-o", made], check=True)
         env = {**os.environ, "HINGE_CLOCK": made, "PYTHONPATH": str(TOP / "python"), "PYTHONDONTWRITEBYTECODE": "1"}
         asked = [sys.executable, TOP / "python" / "hinge" / "__main__.py", "kernel", "--clock"]
         clock = subprocess.run(asked, env=env, stdout=subprocess.PIPE, text=True, check=True).stdout.strip()

@@ -165,7 +165,7 @@ def test_from_one_to_fifteen() -> None:
 def test_a_busy_service_is_tried_at_once_and_then_after_rests() -> None:
     statuses = iter([service.BUSY] * 6 + [16])
     with mock.patch.object(service, "sleep") as sleep:
-        assert 16 == service.answered(lambda *_: next(statuses), 1, 2)
+        assert 16 == service.retried(lambda *_: next(statuses), 1, 2)
     assert [mock.call(0)] * 4 + [mock.call(20e-6)] * 2 == sleep.mock_calls
 
 

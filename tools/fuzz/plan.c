@@ -18,9 +18,9 @@ _Noreturn void leave_the_host(int status) {
 }
 
 static struct host *new_host(void) {
-    struct host *host = zeroed(sizeof *host);
+    struct host *host = allocate_zeros(sizeof *host);
     host->carrier.ways = WAYS;
-    host->page = zeroed(sizeof *host->page + WAYS * sizeof *host->page->ways);
+    host->page = allocate_zeros(sizeof *host->page + WAYS * sizeof *host->page->ways);
     make_parts(host, WAYS);
     return host;
 }

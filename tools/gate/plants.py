@@ -101,7 +101,7 @@ PLANTS = [
     Plant("libraries in simulated time", "no datagram arrives", file="python/hingetulip/aio/traffic.py", old="if self.closing or", new="if True or"),
     Plant("fuzzing of the hosts", "a pipe is out of its array", words=("2000", "plan"), file="hosts/link/plan.c", old="host->carrier.ways, pipe", new="99999, pipe"),
     Plant("fuzzing of the kit", "a line of a net ends in an exception", words=("1", "nets"), file="python/hinge/net/description.py", old="kinds[statement.word](", new="kinds[statement]("),
-    Plant("readers that agree", "a row has another number", file="python/hingetulip/packet_file.py", old="done + row.value", new="done + row.value + 1"),
+    Plant("readers that agree", "a row has another number", file="python/hingetulip/packet_file.py", old="total + row.value", new="total + row.value + 1"),
     Plant("kills of the kit's commands", "nothing is removed", words=("1",), file="python/hinge/border/scratch.py", old="if one.name.startswith(PREFIX)", new="if one.name.startswith(PREFIX * 2)"),
     Plant("the words of nets and runs", "the judge takes any random word", words=("--runs", "0", "--real", "0", "5"), file="python/hinge/plans/judged.py", old="not in wanted:", new="in ():"),
     Plant("the notices of the crates", "a licence has another text", file="release/NOTICE", old="Permission is hereby granted", new="Permission is hereby Granted"),

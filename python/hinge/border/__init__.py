@@ -1,2 +1,2 @@
-"""The border of the kit: data from others enters through `files` and the two ends of a control socket, `serving` and `asking`; text
-leaves through `terminal`, and files through `hinge.outputs`."""
+"""The border of the kit. Data by others enters through `files`, `programs` and a control socket (`serving` is the run's end,
+`asking` the client's). Text leaves through `terminal`, and files through `hinge.outputs`."""

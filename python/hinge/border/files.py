@@ -1,4 +1,4 @@
-"""Untrusted files. Any failure while reading becomes a one-line fault with the file's name."""
+"""Reads untrusted files within limits. Each failure becomes a one-line fault with the file's name."""
 
 from __future__ import annotations
 
@@ -18,47 +18,55 @@ from hinge.border.terminal import note_defect
 from hinge.command import CLOSED, FILES, MOST_TOLD, ROWS, Fault
 
 Name = Union[str, Path]
-GZIP = b"\x1f\x8b"  # the front of a compressed file
-MOST_TABLE = 1 << 32  # bytes of rows, which are read in pieces
-MOST_TEXT, MOST_OBJECT = 1 << 28, 1 << 26  # bytes of a text of lines, and of JSON, which takes some 20 times its length
-MOST_LINES, LONGEST_LINE = 1 << 20, 1 << 20  # lines of a text, each of which takes more than its bytes, and bytes of one
-MOST_SAID = 1 << 17  # lines that say something, as an object or two is made of each
-ENDS_OF_LINES = "\n\r\v\f\x1c\x1d\x1e\x85\u2028\u2029"  # at each of which Python parts a text
+GZIP = b"\x1f\x8b"  # the first bytes of a compressed file
+MOST_TABLE = 1 << 32  # bytes of a table, whose rows are read in pieces
+MOST_TEXT = 1 << 28  # bytes of a text that consists of lines
+MOST_OBJECT = 1 << 26  # bytes of JSON, whose objects need some 20 times its length
+MOST_LINES = 1 << 20  # lines of a text; a short line needs more memory than its bytes
+LONGEST_LINE = 1 << 20  # characters of a line
+MOST_SAID = 1 << 17  # lines that are neither blank nor comments, since readers create an object or two for each
+ENDS_OF_LINES = "\n\r\v\f\x1c\x1d\x1e\x85\u2028\u2029"  # the characters at which str.splitlines ends a line
 NO_TEXT = "it isn't UTF-8"
-TOO_DEEP, TOO_LARGE = "its parts are too deep in one another", "it takes more memory than there is"
+TOO_DEEP = "its parts are too deep in one another"
+TOO_LARGE = "it takes more memory than there is"
 
 
 class Exceeded(Fault):
-    """Raised when a file exceeds its budget; `untrusted` adds the file's name."""
+    """Raised when a file exceeds its budget. The message lacks the file's name, which `untrusted` adds."""
 
     def __init__(self, most: int, what: str) -> None:
         super().__init__(f"it has more than {most:,} {what}", ROWS)
 
 
 class Budget:
-    """The budget for reading a file and for objects created from it."""
+    """Limits the bytes or lines that are read from a file, or the objects that are created from them. `what` names these units."""
 
     def __init__(self, most: int, what: str) -> None:
-        self.most, self.rest, self.what = most, most, what
+        self.most = most
+        self.rest = most
+        self.what = what
 
     def add(self, count: int) -> None:
-        self.most, self.rest = self.most + count, self.rest + count
+        self.most += count
+        self.rest += count
 
     def spend(self, count: int) -> None:
-        """Exceeded: there isn't so much left."""
+        """Subtracts `count` units from the rest. Exceeded: fewer units are left."""
         self.rest -= count
         if self.rest < 0:
             raise Exceeded(self.most, self.what)
 
 
 def told_name(name: Name) -> str:
+    """Returns a file's name for messages; `-` is standard input."""
     return "standard input" if str(name) == "-" else str(name)
 
 
 @contextmanager
 def untrusted(name: Name, status: int = ROWS, what: str = "") -> Iterator[None]:
-    """Guards code that reads a file by others. The reader's errors and missing modules pass; any other exception becomes a Fault
-    that names the file, and its expected content if `what` states the content."""
+    """Guards code that reads an untrusted file: turns exceptions into a Fault with the file's name. `what` is the text for users if
+    the exception only shows that the content is wrong. A Fault other than Exceeded, a missing module and a system error with a
+    file name pass unchanged."""
     try:
         yield
     except Exceeded as error:
@@ -70,8 +78,10 @@ def untrusted(name: Name, status: int = ROWS, what: str = "") -> Iterator[None]:
             raise
         text = error.strerror or what or str(error)
         raise Fault(f"{told_name(name)}: {text}", FILES if error.errno else status) from error
-    except (RecursionError, MemoryError) as error:
-        raise Fault(f"{told_name(name)}: {TOO_DEEP if isinstance(error, RecursionError) else TOO_LARGE}", status) from None
+    except RecursionError:
+        raise Fault(f"{told_name(name)}: {TOO_DEEP}", status) from None
+    except MemoryError:
+        raise Fault(f"{told_name(name)}: {TOO_LARGE}", status) from None
     except Exception as error:
         note_defect()
         why = f"{type(error).__name__}: {error}"[:MOST_TOLD].rstrip(": ")
@@ -80,10 +90,11 @@ def untrusted(name: Name, status: int = ROWS, what: str = "") -> Iterator[None]:
 
 
 class Limited(io.RawIOBase):
-    """A file of which so many bytes may be read."""
+    """Wraps an open file: raises Exceeded if a program reads more than `most` bytes."""
 
     def __init__(self, file: io.FileIO, most: int) -> None:
-        self.file, self.budget = file, Budget(most, "bytes")
+        self.file = file
+        self.budget = Budget(most, "bytes")
 
     def readable(self) -> bool:
         return True
@@ -99,37 +110,41 @@ class Limited(io.RawIOBase):
 
 
 def opened(name: Name, most: Optional[int]) -> BinaryIO:
-    """Opens a file, a pipe or (as `-`) standard input; reading more than `most` bytes raises Exceeded. With None, the program that
-    reads the file sets the budget. Fault: standard input is closed."""
-    if str(name) == "-" and 0 in CLOSED:
+    """Opens a file, a pipe or (for the name `-`) standard input. Reading more than `most` bytes raises Exceeded; None sets no
+    limit, for readers with a limit of their own. Fault: standard input is closed."""
+    is_standard_input = str(name) == "-"
+    if is_standard_input and 0 in CLOSED:
         raise Fault(f"{told_name(name)} is closed", FILES)
+    source: Union[int, Name] = 0 if is_standard_input else name
     if most is None:
-        return open(0, "rb", closefd=False) if str(name) == "-" else open(name, "rb")
-    file = open(0, "rb", buffering=0, closefd=False) if str(name) == "-" else open(name, "rb", buffering=0)
+        return open(source, "rb", closefd=not is_standard_input)
+    file = open(source, "rb", buffering=0, closefd=not is_standard_input)
     return io.BufferedReader(Limited(file, most))
 
 
 def read_bytes(name: Name, most: int) -> bytes:
-    """Returns the bytes of a file. Fault: the file is longer than `most`."""
+    """Returns a file's bytes. Fault: there are more than `most` bytes."""
     with untrusted(name), opened(name, most) as file:
         return file.read()
 
 
 def is_beside(path: Name) -> bool:
-    """Returns whether there is a file that the user didn't name. Fault: a FIFO or a device is there, which could keep a reader for ever."""
+    """Returns whether there is a file at a path that the user didn't name. Fault: the path is a folder, a device or a FIFO, which
+    could block a reader for ever."""
     if os.path.exists(path) and not os.path.isfile(path):
         raise Fault(f"{path}: it isn't a file", FILES)
     return os.path.isfile(path)
 
 
 def read_front(name: Name, most: int) -> bytes:
-    """Returns at most `most` bytes of a file's beginning."""
+    """Returns a file's first bytes, at most `most`."""
     with untrusted(name), opened(name, None) as file:
         return file.read(most)
 
 
 def read_text(name: Name, errors: str = "strict", most: int = MOST_TEXT, lines: Optional[int] = MOST_LINES) -> str:
-    """Returns a UTF-8 text, without a byte order mark. Fault: the file isn't UTF-8, or has too many lines."""
+    """Returns a file's text without a byte order mark; `errors` are those of bytes.decode. Fault: the file isn't UTF-8, has more
+    than `most` bytes, or more than `lines` lines (None: any number)."""
     with untrusted(name):
         try:
             text = read_bytes(name, most).decode("utf-8-sig", errors)
@@ -141,7 +156,7 @@ def read_text(name: Name, errors: str = "strict", most: int = MOST_TEXT, lines: 
 
 
 def lines_of(file: TextIO, longest: int = LONGEST_LINE) -> Iterator[str]:
-    """Exceeded: a line is too long."""
+    """Yields a text's lines. Exceeded: a line has more than `longest` characters."""
     while line := file.readline(longest + 1):
         if len(line) > longest:
             raise Exceeded(longest, "letters in a line")
@@ -155,31 +170,37 @@ def lines_in(
     errors: str = "strict",
     said: Optional[int] = MOST_SAID,
 ) -> Iterator[str]:
-    """Yields the lines of a UTF-8 text without their line ends, one by one, so that discarded lines use no memory. Fault: as
-    `read_text` says, a line is too long, or too many of them are neither blank nor a comment."""
+    """Yields a text's lines without their line ends, one at a time, so that the caller can discard lines and save memory. Fault:
+    the file isn't UTF-8, or has too many bytes, a line of more than `longest` characters, more than `lines` lines, or more than
+    `said` lines that are neither blank nor comments (None: any number)."""
     budget = Budget(lines or 0, "lines")
-    saying = Budget(said or 0, "lines that say something")
+    said_budget = Budget(said or 0, "lines that say something")
     with untrusted(name), opened(name, MOST_TEXT) as file:
         try:
             for line in lines_of(io.TextIOWrapper(file, "utf-8-sig", errors), longest):
-                budget.spend(lines is not None)
-                saying.spend(said is not None and not (line.isspace() or line.lstrip().startswith("#")))
+                is_said = not line.isspace() and not line.lstrip().startswith("#")
+                if lines is not None:
+                    budget.spend(1)
+                if said is not None and is_said:
+                    said_budget.spend(1)
                 yield line.removesuffix("\n")
         except UnicodeDecodeError:
             raise Fault(f"{told_name(name)}: {NO_TEXT}", ROWS) from None
 
 
 def read_object(name: Name, what: str) -> dict[str, Any]:
-    """Returns the object in a JSON file; `what` names the file in a fault. TypeError: the file contains something else."""
+    """Returns the object in a JSON file. Fault, with the text `what`: the file contains anything else."""
     with untrusted(name, what=what):
         record = json.loads(read_text(name, most=MOST_OBJECT))
-        if not isinstance(record, dict):
-            raise TypeError
-        return record
+    if not isinstance(record, dict):
+        raise Fault(f"{told_name(name)}: {what}", ROWS)
+    return record
 
 
 def opened_log(path: Name, is_new: bool = True) -> int:
-    """Opens a file for a program's output; returns the descriptor. PermissionError: the file is a link, a FIFO, or a third user's."""
+    """Opens a file for a program's output, and empties the file if `is_new`; returns the descriptor. PermissionError: the path
+    isn't a regular file, or the file belongs neither to this user nor to the folder's. OSError: the path is a symbolic link, or a
+    FIFO without a reader."""
     log = os.open(path, os.O_WRONLY | os.O_CREAT | os.O_APPEND | os.O_NOFOLLOW | os.O_NONBLOCK | os.O_CLOEXEC, 0o666)
     result = os.fstat(log)
     if not stat.S_ISREG(result.st_mode) or result.st_uid not in (os.geteuid(), os.stat(Path(path).parent).st_uid):
@@ -203,15 +224,16 @@ def read_system(path: str) -> str:
 
 
 class Input(NamedTuple):
-    """A file for several readers, including other programs, and its name for users."""
+    """A file that several readers can open, including other programs."""
 
-    path: str
-    name: str
+    path: str  # for the readers
+    name: str  # for messages
 
 
 @contextmanager
 def read_again(name: str, most: Optional[int]) -> Iterator[Input]:
-    """Yields a file for several readings. Standard input and pipes are first copied to a file without a name, up to `most` bytes."""
+    """Yields a file that can be read several times. First copies standard input or a FIFO to an unnamed file. Fault: standard input
+    or the FIFO has more than `most` bytes."""
     if name != "-" and not stat.S_ISFIFO(os.stat(name).st_mode):
         yield Input(name, name)
         return
@@ -223,10 +245,11 @@ def read_again(name: str, most: Optional[int]) -> Iterator[Input]:
 
 
 class Counted:
-    """A file that counts its bytes as they are read."""
+    """Wraps a file, and counts the bytes that are read from the file."""
 
     def __init__(self, file: BinaryIO) -> None:
-        self.file, self.count = file, 0
+        self.file = file
+        self.count = 0
 
     def read(self, size: int = -1) -> bytes:
         data = self.file.read(size)
@@ -235,16 +258,20 @@ class Counted:
 
 
 class Unpacked:
-    """The unpacked content of a gzip file, limited in proportion to the file's length."""
+    """Unpacks a gzip file, and limits the content in proportion to the packed bytes that were read."""
 
-    FREE, TIMES = 1 << 26, 100
+    FREE = 1 << 26  # bytes of content that each file may have
+    TIMES = 100  # further bytes of content for each packed byte
 
     def __init__(self, name: str, file: BinaryIO) -> None:
-        self.name, self.packed, self.count = name, Counted(file), 0
-        self.file = gzip.GzipFile(fileobj=cast(BinaryIO, self.packed))  # of which it takes `read` alone
+        self.name = name
+        self.packed = Counted(file)
+        self.count = 0  # of the content's bytes so far
+        self.file = gzip.GzipFile(fileobj=cast(BinaryIO, self.packed))  # GzipFile only calls `read`
 
     def read(self, size: int) -> bytes:
-        """Returns at most `size` bytes; a truncated archive loses no earlier bytes. Fault: the content is far longer than the file."""
+        """Returns at most `size` bytes of the content; if the archive is truncated, all bytes before that place can be read. Fault:
+        the content is far longer than the archive."""
         data: bytes = self.file.read1(size)
         self.count += len(data)
         if self.count > self.FREE + self.TIMES * self.packed.count:
@@ -254,7 +281,7 @@ class Unpacked:
 
 
 def object_of(text: bytes) -> Optional[dict[str, Any]]:
-    """Returns the JSON object in a line, or None."""
+    """Returns the JSON object in a line; None if the line contains anything else."""
     try:
         value = json.loads(text)
     except (ValueError, RecursionError):

@@ -1,5 +1,5 @@
-"""The programs that the kit runs. Output counts as an answer only after an exit status that allows an answer: a killed program, or
-a program that didn't start, has said nothing."""
+"""The programs that the kit runs. A program's output counts only after an expected exit status, because a killed program's output
+may be cut."""
 
 from __future__ import annotations
 
@@ -22,17 +22,17 @@ CompletedProcess = subprocess.CompletedProcess
 CalledProcessError = subprocess.CalledProcessError
 TimeoutExpired = subprocess.TimeoutExpired
 NOTHING, PIPE, SAME = subprocess.DEVNULL, subprocess.PIPE, subprocess.STDOUT
-SHORT = (errno.EAGAIN, errno.ENOMEM, errno.EMFILE, errno.ENFILE)  # of the system, and not of a program
+SHORT = (errno.EAGAIN, errno.ENOMEM, errno.EMFILE, errno.ENFILE)  # the system lacks processes, memory or descriptors
 NOUGHT = (0,)
-CANNOT_EXECUTE = 126  # the status of a shell, as NOT_FOUND is
+CANNOT_EXECUTE = 126  # a shell's status for a program that can't be executed, as NOT_FOUND is for a missing program
 
 
 class Answer(NamedTuple):
-    """A program's output and status."""
+    """A program's exit status and output."""
 
     status: int
-    data: bytes
-    told: str  # on standard error
+    data: bytes  # from standard output
+    told: str  # from standard error
 
     @property
     def text(self) -> str:
@@ -40,20 +40,23 @@ class Answer(NamedTuple):
 
 
 def name_of(words: Sequence[str]) -> str:
-    """Returns a name such as `dummynet audit`."""
+    """Returns a program's name for messages, with a subcommand if there is one, such as `dummynet audit`."""
     return " ".join([basename(words[0]), *(word for word in words[1:2] if word.isalpha())])
 
 
 def how_ended(status: int) -> str:
+    """Returns a phrase about a program's end: with the exit status, or with the signal whose negative number `status` is."""
+    if status >= 0:
+        return f"ended with status {status}"
     try:
-        return f"was ended by {signal.Signals(-status).name}" if status < 0 else f"ended with status {status}"
+        return f"was ended by {signal.Signals(-status).name}"
     except ValueError:
         return f"was ended by signal {-status}"
 
 
 def begun(words: Sequence[str], **how: Any) -> "Process[Any]":
-    """Starts a program that keeps running; returns its process. Fault: the system has no room for a process. OSError: the program
-    can't be executed."""
+    """Starts a program without waiting for its end; returns the process. `how` are subprocess.Popen's options. Fault: the system
+    lacks processes, memory or descriptors. OSError: the program can't be executed."""
     try:
         return subprocess.Popen(words, **how)
     except OSError as error:
@@ -71,9 +74,11 @@ def asked(
     env: Optional[Mapping[str, str]] = None,
     begin: Optional[Callable[[], None]] = None,
 ) -> Answer:
-    """Runs a program on an input; returns its answer. Fault: a signal ended the program, or its status differs from these."""
-    how: dict[str, Any] = {} if data is None else {"stdin": PIPE}
-    with begun(words, stdout=out, stderr=PIPE, env=env, preexec_fn=begin, **({"stdin": NOTHING} | how)) as process:
+    """Runs a program to its end, with `data` as standard input; returns its answer. The new process calls `begin` before the
+    program. Fault: a signal ended the program, or its status isn't one of `statuses`. TimeoutExpired: the program ran for more than
+    `limit` seconds, and was killed."""
+    stdin = NOTHING if data is None else PIPE
+    with begun(words, stdin=stdin, stdout=out, stderr=PIPE, env=env, preexec_fn=begin) as process:
         try:
             answer, complaints = process.communicate(data, limit)
         except BaseException:
@@ -83,16 +88,20 @@ def asked(
 
 
 def end_of(words: Sequence[str], status: int, statuses: Iterable[int], complaints: bytes) -> str:
-    """Returns a program's message. Fault: a signal ended the program, or its status differs from these."""
+    """Returns what a program wrote to standard error. Fault: a signal ended the program, or its status isn't one of `statuses`."""
     text = complaints.decode("utf-8", "replace").strip()
-    if status not in statuses:
-        raise Fault(f"{name_of(words)} {how_ended(status)}" + (f": {' '.join(text.split())[:MOST_TOLD]}" if text else ""), FILES)
-    return text
+    if status in statuses:
+        return text
+    message = f"{name_of(words)} {how_ended(status)}"
+    if text:
+        message += f": {' '.join(text.split())[:MOST_TOLD]}"
+    raise Fault(message, FILES)
 
 
 def lines_from(words: Sequence[str], file: IO[bytes], statuses: Iterable[int] = NOUGHT) -> Iterator[bytes]:
-    """Yields the lines of a program's answer to a file, without keeping them. Fault (after the last whole line): like `asked`."""
-    part = b""
+    """Yields the lines that a program prints when `file` is its standard input, one at a time, to save memory. Fault: as for
+    `asked`, but after the whole lines. A last line without a line end may be cut, so it follows only after an expected status."""
+    last_line = b""
     with begun(words, stdin=file, stdout=PIPE, stderr=PIPE) as process:
         try:
             assert process.stdout and process.stderr
@@ -100,14 +109,14 @@ def lines_from(words: Sequence[str], file: IO[bytes], statuses: Iterable[int] = 
                 if line.endswith(b"\n"):
                     yield line
                 else:
-                    part = line  # which may be cut, and then says nothing
+                    last_line = line
             complaints = process.stderr.read()
         except BaseException:
             process.kill()
             raise
     end_of(words, process.returncode, statuses, complaints)
-    if part:
-        yield part
+    if last_line:
+        yield last_line
 
 
 def forked(work: Callable[[], Optional[int]]) -> int:
@@ -123,11 +132,11 @@ def forked(work: Callable[[], Optional[int]]) -> int:
     status = FILES
     try:
         status = work() or 0
-    except Fault as told:
-        say(str(told))
+    except Fault as fault:
+        say(str(fault))
     except OSError as error:
         say(f"{error.filename or 'the system'}: {error.strerror}")
-    except Exception:  # a defect of the kit, which would be silent below
+    except Exception:  # a defect of the kit, which os._exit would hide
         import traceback
 
         tell(traceback.format_exc(), "")
@@ -145,8 +154,8 @@ def become(words: Sequence[str], why: Callable[[OSError], str] = lambda error: s
 
 
 def can_be_read(descriptor: Union[int, HasFileno], seconds: float) -> bool:
-    """Waits at most this long until a pipe, socket or process descriptor can be read; returns whether it can. select(2) refuses
-    descriptors from 1,024 on."""
+    """Waits up to `seconds` until a pipe, socket or process descriptor can be read; returns whether it can. Uses poll(2), since
+    select(2) refuses descriptors from 1,024 on."""
     poll = select.poll()
     poll.register(descriptor, select.POLLIN)
     return bool(poll.poll(seconds * 1000))

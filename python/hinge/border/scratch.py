@@ -1,5 +1,6 @@
-"""Temporary files and folders. Files are unnamed, so no file remains. A folder is also removed on SIGTERM and SIGHUP; if its
-process was killed, the next process that creates such a folder recognizes the old folder by its mark and removes it."""
+"""Temporary files and folders. Files have no names, so none remains. A folder is removed even if SIGTERM or SIGHUP ends the
+process. If the process was killed, the next process that creates such a folder removes the old folder, which a marking file
+identifies."""
 
 from __future__ import annotations
 
@@ -14,26 +15,26 @@ import time
 from contextlib import contextmanager, suppress
 from pathlib import Path
 from types import FrameType
-from typing import IO, Any, ContextManager, Iterator, Optional, Union
+from typing import IO, ContextManager, Iterator, Optional, Sequence, Union
 
 PREFIX = ".hinge-"
 IN_MEMORY = "/dev/shm"
-MANY = 1 << 20  # bytes
-MARK = ".mark"  # the file by which a folder is the kit's; a name alone says nothing
-PAUSE = 0.05  # s between trials of a lock
-TOGETHER = 1.0  # s in which signals are one
-# The signals that end a process, with what Python has them do at first.
+MANY = 1 << 20  # bytes from which on `memory` uses large pages
+MARK = ".mark"  # the name of a file that marks a folder as the kit's, since other programs may use the same folder names
+PAUSE = 0.05  # s between attempts to lock a folder
+TOGETHER = 1.0  # s in which several signals raise one exception
+# The signals that end a process, with the handlers that Python sets first.
 USUAL = {signal.SIGINT: signal.default_int_handler, signal.SIGTERM: signal.SIG_DFL, signal.SIGHUP: signal.SIG_DFL}
 
 
 def held(path: Union[str, Path]) -> int:
-    """Returns a descriptor that keeps a folder or namespace alive."""
+    """Opens a folder or namespace; returns the descriptor. A namespace exists at least until the descriptor is closed."""
     return os.open(path, os.O_RDONLY | os.O_NONBLOCK | os.O_CLOEXEC)
 
 
 @contextmanager
 def holding(path: Union[str, Path]) -> Iterator[int]:
-    """Yields such a descriptor, and closes it afterwards."""
+    """Yields a descriptor of a folder or namespace, and closes the descriptor afterwards."""
     descriptor = held(path)
     try:
         yield descriptor
@@ -43,12 +44,13 @@ def holding(path: Union[str, Path]) -> Iterator[int]:
 
 @contextmanager
 def alone(folder: str, patience: float) -> Iterator[None]:
-    """Locks a folder while the caller takes a name there. BlockingIOError: another program keeps the lock for this many seconds."""
+    """Locks a folder for the guarded code, against other callers of this function. BlockingIOError: another process keeps the lock
+    for `patience` seconds."""
     until = time.monotonic() + patience
-    with holding(folder) as place:
+    with holding(folder) as descriptor:
         while True:
             try:
-                fcntl.flock(place, fcntl.LOCK_EX | fcntl.LOCK_NB)
+                fcntl.flock(descriptor, fcntl.LOCK_EX | fcntl.LOCK_NB)
                 break
             except BlockingIOError:
                 if time.monotonic() > until:
@@ -62,7 +64,8 @@ class Ended(BaseException):
 
 
 def takes_files(folder: str) -> bool:
-    """Returns whether a folder allows an unnamed file, or a named file if the file system supports only those."""
+    """Returns whether this process can write a temporary file in a folder. Tries an unnamed file; if the file system doesn't
+    support unnamed files, checks the folder's permissions instead."""
     try:
         with open(os.open(folder, os.O_TMPFILE | os.O_WRONLY | os.O_CLOEXEC, 0o600), "wb") as file:
             file.write(b"x")
@@ -72,9 +75,9 @@ def takes_files(folder: str) -> bool:
 
 
 def temporary_place() -> str:
-    """Returns the folder for temporary files. `tempfile` would test the folder with a named file, which a killed process would
-    leave."""
-    import tempfile  # which takes longer to load than a help may
+    """Returns the folder for temporary files, and sets it as `tempfile`'s folder. `tempfile` itself would test the folder with a
+    named file, which would remain if the process was killed."""
+    import tempfile  # here, since it takes longer to load than `--help` may take
 
     if tempfile.tempdir is None:
         names = [os.environ.get(name) for name in ("TMPDIR", "TEMP", "TMP")]
@@ -85,7 +88,7 @@ def temporary_place() -> str:
 
 @contextmanager
 def unnamed() -> Iterator[tuple[IO[bytes], str]]:
-    """Yields a file without a name, and a path for other programs."""
+    """Yields a temporary file without a name, and a path by which other programs can open the file."""
     import tempfile
 
     with tempfile.TemporaryFile(dir=temporary_place()) as file:
@@ -93,7 +96,7 @@ def unnamed() -> Iterator[tuple[IO[bytes], str]]:
 
 
 class Folder:
-    """A folder whose mark stays locked as long as this process, or a fork, lives."""
+    """A temporary folder, whose mark stays locked until the folder is removed, or until this process and its forks have ended."""
 
     def __init__(self, within: Union[str, Path, None] = None) -> None:
         import tempfile
@@ -117,19 +120,21 @@ class Folder:
 
 
 def mark_of(folder: Union[str, Path]) -> bytes:
-    """Returns the content of a folder's mark, which is wrong in a copy or after renaming."""
+    """Returns the content that a folder's mark must have: the folder's device, inode and name. A copied or renamed folder therefore
+    has a wrong mark."""
     result = os.lstat(folder)
     return f"a temporary folder of hinge: {result.st_dev}:{result.st_ino} {os.path.basename(folder)}\n".encode()
 
 
 def marked(folder: Path) -> int:
-    """Marks a folder; returns a descriptor. The mark is complete and locked before it gets its name."""
-    beside = folder / f"{MARK}.new"
-    lock = os.open(beside, os.O_WRONLY | os.O_CREAT | os.O_EXCL | os.O_CLOEXEC, 0o600)
+    """Marks a folder; returns the mark's locked descriptor. Renames the mark last, so that other processes only see a locked and
+    complete mark."""
+    new_mark = folder / f"{MARK}.new"
+    lock = os.open(new_mark, os.O_WRONLY | os.O_CREAT | os.O_EXCL | os.O_CLOEXEC, 0o600)
     try:
         fcntl.flock(lock, fcntl.LOCK_EX)
         os.write(lock, mark_of(folder))
-        beside.rename(folder / MARK)
+        new_mark.rename(folder / MARK)
     except OSError:
         os.close(lock)
         raise
@@ -139,26 +144,26 @@ def marked(folder: Path) -> int:
 def remove_all(folder: Union[str, Path]) -> None:
     """Removes a folder with its mark last, so that another process can complete an interrupted removal."""
     with suppress(OSError), os.scandir(folder) as entries:
-        for one in entries:
-            if one.is_dir(follow_symlinks=False):
-                shutil.rmtree(one.path, ignore_errors=True)
-            elif one.name != MARK:
+        for entry in entries:
+            if entry.is_dir(follow_symlinks=False):
+                shutil.rmtree(entry.path, ignore_errors=True)
+            elif entry.name != MARK:
                 with suppress(OSError):
-                    os.unlink(one.path)
+                    os.unlink(entry.path)
     shutil.rmtree(folder, ignore_errors=True)
 
 
 def remove_left(within: Union[str, Path]) -> None:
-    """Removes the marked folders whose processes are no more."""
+    """Removes the marked folders in `within` whose processes have ended."""
     with os.scandir(within) as entries:
-        for one in entries:
-            if one.name.startswith(PREFIX):
+        for entry in entries:
+            if entry.name.startswith(PREFIX):
                 with suppress(OSError):
-                    remove_unlocked(one.path)
+                    remove_unlocked(entry.path)
 
 
 def remove_all_left() -> None:
-    """Removes what killed processes left in both places, where they can be read."""
+    """Removes the folders of killed processes in /dev/shm and in the folder for temporary files, if these can be read."""
     with suppress(OSError):
         remove_left(IN_MEMORY)
     with suppress(OSError):
@@ -166,7 +171,7 @@ def remove_all_left() -> None:
 
 
 def remove_unlocked(folder: str) -> None:
-    """Removes a folder. OSError: the folder has no mark, or its process is running."""
+    """Removes a folder with this user's right mark. OSError: the folder has no mark, or the mark's process is still running."""
     mark = os.open(os.path.join(folder, MARK), os.O_RDONLY | os.O_NOFOLLOW | os.O_NONBLOCK | os.O_CLOEXEC)
     try:
         own_mark = mark_of(folder)
@@ -178,45 +183,56 @@ def remove_unlocked(folder: str) -> None:
 
 
 @contextmanager
-def noted(numbers: list[int], cuts: bool) -> Iterator[None]:
-    """Notes these signals, which take effect afterwards, and raises exceptions meanwhile if `cuts`. Simultaneous signals count as
-    one; a later signal counts again, since some Python code drops exceptions."""
-    came, before, until = list[int](), {number: signal.getsignal(number) for number in numbers}, 0.0
+def deferred(numbers: Sequence[int], cuts: bool) -> Iterator[None]:
+    """Defers these signals: restores their handlers after the guarded code, and only then raises the signals again. With `cuts`, a
+    signal also raises an exception in the guarded code. Signals within a second raise one exception; a later signal raises
+    another, since some Python code drops exceptions."""
+    arrivals: list[int] = []
+    handlers = {number: signal.getsignal(number) for number in numbers}
+    until = 0.0  # the moment from which on a signal raises an exception
 
     def note(number: int, frame: Optional[FrameType]) -> None:
         nonlocal until
-        came.append(number)
+        arrivals.append(number)
         if cuts and time.monotonic() > until:
             until = time.monotonic() + TOGETHER
             raise KeyboardInterrupt if number == signal.SIGINT else Ended
 
     try:
-        for number in before:
+        for number in handlers:
             signal.signal(number, note)
         yield
     finally:
         cuts = False
-        for number, handler in before.items():
+        for number, handler in handlers.items():
             signal.signal(number, handler)
-        for number in came:
+        for number in arrivals:
             signal.raise_signal(number)
 
 
+def is_main_thread() -> bool:
+    """Returns whether this is the main thread, since Python refuses handlers for signals in other threads."""
+    return threading.current_thread() is threading.main_thread()
+
+
 def clean_end() -> ContextManager[None]:
-    """Turns SIGTERM and SIGHUP into exceptions, like SIGINT; afterwards they end this process as usual."""
-    is_main = threading.current_thread() is threading.main_thread()
-    return noted([one for one, usual in USUAL.items() if is_main and signal.getsignal(one) == usual], cuts=True)
+    """Guards code that cleans up at its end: SIGINT, SIGTERM and SIGHUP raise exceptions in the code, and afterwards end this
+    process as usual. Changes nothing in other threads than the main one, and for signals with unusual handlers."""
+    numbers = [number for number, usual in USUAL.items() if is_main_thread() and signal.getsignal(number) == usual]
+    return deferred(numbers, cuts=True)
 
 
 def undisturbed() -> ContextManager[None]:
-    """Cleans up, which no signal cuts short."""
-    is_main = threading.current_thread() is threading.main_thread()
-    return noted([one for one in USUAL if is_main and signal.getsignal(one) not in (signal.SIG_IGN, None)], cuts=False)
+    """Guards code that no signal may interrupt, such as a cleanup: SIGINT, SIGTERM and SIGHUP take effect afterwards."""
+    numbers = [number for number in USUAL if is_main_thread() and signal.getsignal(number) not in (signal.SIG_IGN, None)]
+    return deferred(numbers, cuts=False)
 
 
 def memory(size: int) -> memoryview:
-    """Returns `size` bytes; many bytes use large pages, if the system has them."""
-    data: Any = mmap.mmap(-1, size, mmap.MAP_PRIVATE) if size >= MANY else bytearray(size)
+    """Returns `size` writable bytes, in large pages if they are many and the system has such pages."""
+    if size < MANY:
+        return memoryview(bytearray(size))
+    data = mmap.mmap(-1, size, mmap.MAP_PRIVATE)
     with suppress(AttributeError, OSError):
         data.madvise(mmap.MADV_HUGEPAGE)
     return memoryview(data)
@@ -224,7 +240,7 @@ def memory(size: int) -> memoryview:
 
 @contextmanager
 def scratch(within: Union[str, Path, None] = None) -> Iterator[Path]:
-    """Yields a temporary folder, which even a signal removes."""
+    """Yields a temporary folder, and removes the folder afterwards, even if a signal interrupts the guarded code or the removal."""
     folder: Optional[Folder] = None
     with clean_end():
         try:

@@ -1,4 +1,4 @@
-"""Text for a terminal, which can't contain control sequences, only line ends."""
+"""Text for a terminal: replaces control characters, which could act on the terminal, and only keeps line ends."""
 
 from __future__ import annotations
 
@@ -7,17 +7,20 @@ import os
 import sys
 from typing import TextIO, cast
 
-BLOCKS, ASCII_BLOCKS = "\u2581\u2582\u2583\u2584\u2585\u2586\u2587\u2588", ".:-=+*%#"
+BLOCKS = "\u2581\u2582\u2583\u2584\u2585\u2586\u2587\u2588"
+ASCII_BLOCKS = ".:-=+*%#"
 
 
 def printable(text: str) -> str:
-    """Returns a line, possibly with quoted names, without characters that control a terminal."""
-    return text if text.isprintable() else "".join(letter if letter.isprintable() else f"\\x{ord(letter):02x}" for letter in text)
+    """Returns a line with each character that could control a terminal replaced by its code, such as `\\x1b`."""
+    if text.isprintable():
+        return text
+    return "".join(letter if letter.isprintable() else f"\\x{ord(letter):02x}" for letter in text)
 
 
 def lines(text: str) -> str:
-    """Returns several lines without such characters."""
-    return text if text.isprintable() else "\n".join(map(printable, text.split("\n")))
+    """Returns a text of several lines, with each line made `printable`."""
+    return "\n".join(map(printable, text.split("\n")))
 
 
 def several(count: int, name: str) -> str:
@@ -26,7 +29,8 @@ def several(count: int, name: str) -> str:
 
 
 def blocks() -> str:
-    """Returns eight characters of growing height, or of growing darkness if standard output is ASCII."""
+    """Returns eight characters of growing height, or ASCII characters of growing darkness if standard output can't show the
+    former."""
     try:
         BLOCKS.encode(sys.stdout.encoding or "ascii")
         return BLOCKS
@@ -35,18 +39,18 @@ def blocks() -> str:
 
 
 def show(text: str = "", end: str = "\n") -> None:
-    """Text on standard output."""
+    """Writes a text to standard output, without control characters."""
     sys.stdout.write(lines(text) + end)
 
 
 def tell(text: str, end: str = "\n") -> None:
-    """Text on standard error, at once."""
+    """Writes a text to standard error at once, without control characters."""
     sys.stderr.write(lines(text) + end)
     sys.stderr.flush()
 
 
 def silence(stream: int) -> None:
-    """Gives a standard stream /dev/null."""
+    """Connects a standard stream, 0 to 2, to /dev/null."""
     nothing = os.open(os.devnull, os.O_RDWR)
     if nothing != stream:
         os.dup2(nothing, stream)
@@ -55,21 +59,21 @@ def silence(stream: int) -> None:
 
 
 def note_defect() -> None:
-    """Prints the origin of an exception that users see as a line, for debugging the kit."""
+    """Prints the current exception's traceback if HINGE_TRACEBACK is set, since users only see a line of text."""
     if "HINGE_TRACEBACK" in os.environ:
-        import traceback  # which takes longer to load than a help may
+        import traceback  # here, since it takes longer to load than `--help` may take
 
         tell(traceback.format_exc(), "")
 
 
 def tell_over(text: str = "") -> None:
-    """Replaces the current line on a terminal; without a text, clears the line."""
+    """Replaces the terminal's current line by a text; without a text, clears the line."""
     sys.stderr.write(f"\r\x1b[K{printable(text)}")
     sys.stderr.flush()
 
 
 class Shown(io.TextIOBase):
-    """Standard output as a text file."""
+    """Standard output as a text file, without control characters."""
 
     def write(self, text: str) -> int:
         show(text, "")
@@ -79,9 +83,10 @@ class Shown(io.TextIOBase):
         sys.stdout.flush()
 
     def fileno(self) -> int:
-        """Returns the descriptor, for programs that write no control sequences."""
+        """Returns standard output's descriptor, for programs that themselves write no control characters."""
         return sys.stdout.fileno()
 
 
 def standard_output() -> TextIO:
+    """Returns standard output as a file for libraries that write text."""
     return cast(TextIO, Shown())

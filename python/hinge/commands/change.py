@@ -6,7 +6,7 @@ import sys
 
 from hinge.border.asking import ask
 from hinge.border.terminal import show
-from hinge.command import CONFIGURATION, parser
+from hinge.command import CONFIGURATION, new_parser
 from hinge.events.forms import WORDS
 from hingetulip_words.explained import explained
 
@@ -18,18 +18,19 @@ are {WORDS_OF_NETS}. It prints the lines that are obeyed, with their moments."""
 
 
 def main() -> None:
-    line = parser(
+    parser = new_parser(
         WHAT,
         "hinge run --control link.socket --up 10Mbit/s -- bash\n  hinge change link.socket up 1Mbit/s 50ms\n"
         "  hinge change net.socket cut n1 from n2 n3 5s",
         "0 done, 2 a wrong word or no such run, 3 a line that the links refuse, 6 the system refuses something",
     )
-    line.add_argument("socket", metavar="SOCKET")
-    line.add_argument("words", nargs="+", metavar="WORDS")
-    arguments = line.parse_args()
+    parser.add_argument("socket", metavar="SOCKET")
+    parser.add_argument("words", nargs="+", metavar="WORDS")
+    arguments = parser.parse_args()
     replies = ask(arguments.socket, change=" ".join(arguments.words)).told or []
-    for one in replies:
-        show(f"{one.moment / 1e9:.6f} s: {one.line}" + (f": {explained(one.line, one.refused)}" if one.refused else ""))
-    if any(one.refused for one in replies):
+    for reply in replies:
+        refusal = f": {explained(reply.line, reply.refused)}" if reply.refused else ""
+        show(f"{reply.moment / 1e9:.6f} s: {reply.line}{refusal}")
+    if any(reply.refused for reply in replies):
         sys.stdout.flush()
         sys.exit(CONFIGURATION)

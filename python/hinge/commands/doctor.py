@@ -1,4 +1,5 @@
-"""The command `hinge doctor`: the kit's abilities on this machine, reasons for missing abilities, and packages to install."""
+"""The command `hinge doctor`, which prints the kit's abilities on this machine, reasons for missing abilities, and packages to
+install."""
 
 from __future__ import annotations
 
@@ -11,7 +12,7 @@ from typing import Callable, NamedTuple, Optional
 from hinge.border.files import read_system
 from hinge.border.programs import TimeoutExpired, asked
 from hinge.border.terminal import show
-from hinge.command import Fault, module, parser
+from hinge.command import Fault, module, new_parser
 from hinge.program import HINGE, dummynet
 from hinge.run.processes import SIGNALLED
 from hinge.simulated.build import missing_packages, source
@@ -25,19 +26,20 @@ LIMIT = 20  # s that a trial may take
 
 
 class Finding(NamedTuple):
-    """Why something doesn't work, if it doesn't, and Debian's packages that would help."""
+    """Describes why something doesn't work, and Debian's packages that would help; the reason is empty if it works."""
 
     why: str = ""
     packages: tuple[str, ...] = ()
 
 
 def last_line(text: str) -> str:
+    """Returns the last line of a program's messages."""
     return (text.strip().splitlines() or ["it ended without a word"])[-1]
 
 
 @lru_cache(maxsize=None)
 def of_run(*options: str) -> Finding:
-    """Tries `true` behind a link with these options; returns the finding."""
+    """Runs `true` over a link with these options for `hinge run`; returns the finding."""
     words = [*HINGE, "run", "--quiet", *options, "--", "true"]
     try:
         answer = asked(words, statuses=range(SIGNALLED), limit=LIMIT)
@@ -45,10 +47,13 @@ def of_run(*options: str) -> Finding:
         return Finding(f"it hasn't ended after {LIMIT} s")
     except Fault as fault:
         return Finding(str(fault))
-    return Finding() if answer.status == 0 else Finding(last_line(answer.told).removeprefix("hinge run: "))
+    if answer.status == 0:
+        return Finding()
+    return Finding(last_line(answer.told).removeprefix("hinge run: "))
 
 
 def programs() -> Finding:
+    """Returns whether dummynet runs."""
     try:
         asked([dummynet(), "--version"], limit=LIMIT)
     except (Fault, OSError, TimeoutExpired) as fault:
@@ -57,29 +62,38 @@ def programs() -> Finding:
 
 
 def first_words() -> Finding:
-    """Programs that the first samples of the pages call."""
+    """Returns which programs and files are missing that the first samples of the pages use."""
     packages = {"ping": "iputils-ping", "git": "git", "redis-server": "redis-server"}
-    lacking = {name: package for name, package in packages.items() if shutil.which(name) is None}
-    names = [*lacking, *(["/etc/hosts (touch it)"] if not os.path.exists("/etc/hosts") else [])]
-    return Finding(f"there is no {' and no '.join(names)}", tuple(lacking.values())) if names else Finding()
+    missing = {name: package for name, package in packages.items() if shutil.which(name) is None}
+    names = [*missing]
+    if not os.path.exists("/etc/hosts"):
+        names.append("/etc/hosts (touch it)")
+    if not names:
+        return Finding()
+    return Finding(f"there is no {' and no '.join(names)}", tuple(missing.values()))
 
 
 def has_outside() -> bool:
+    """Returns whether a program is there that connects a host with the rest of the network."""
     return any(map(shutil.which, ("slirp4netns", "pasta")))
 
 
 def links() -> Finding:
-    """A run with the rest of the network also has links; if that run works, a second run would add no information."""
-    return Finding() if has_outside() and not of_run("--outside").why else of_run()
+    """Returns whether links in real time work. A run with --outside uses links, too, so no second run is needed if it works."""
+    if has_outside() and not of_run("--outside").why:
+        return Finding()
+    return of_run()
 
 
 def outside() -> Finding:
+    """Returns whether hosts can reach the rest of the network."""
     if not has_outside():
         return Finding("there is neither slirp4netns nor pasta", ("slirp4netns",))
     return of_run("--outside")
 
 
 def simulated() -> Finding:
+    """Returns whether runs in simulated time work."""
     try:
         kernel()
     except Fault as missing:
@@ -88,12 +102,15 @@ def simulated() -> Finding:
 
 
 def modules(**packages: str) -> Finding:
-    lacking = {name: package for name, package in packages.items() if not is_loaded(name, package)}
-    return Finding(f"Python lacks {', '.join(lacking)}", tuple(lacking.values())) if lacking else Finding()
+    """Returns whether all these Python modules load; each argument is a module's name and Debian's package."""
+    missing = {name: package for name, package in packages.items() if not is_loaded(name, package)}
+    if not missing:
+        return Finding()
+    return Finding(f"Python lacks {', '.join(missing)}", tuple(missing.values()))
 
 
 def is_loaded(name: str, package: str) -> bool:
-    """Returns whether a module loads. One that is there may be broken, so that a look for its file isn't enough."""
+    """Returns whether a module loads. A search for the module's file isn't enough, since the module may be broken."""
     try:
         return bool(module(name, package))
     except Fault:
@@ -122,7 +139,9 @@ def users() -> Finding:
     except OSError:
         lines = []
     has_ids = any(line.startswith((f"{name}:", f"{os.getuid()}:")) for line in lines)
-    return Finding() if has_ids else Finding(f"/etc/subuid has no line of {name or os.getuid()}")
+    if has_ids:
+        return Finding()
+    return Finding(f"/etc/subuid has no line of {name or os.getuid()}")
 
 
 TRIALS: dict[str, Callable[[], Finding]] = {
@@ -140,6 +159,7 @@ TRIALS: dict[str, Callable[[], Finding]] = {
 
 
 def line_of(what: str, finding: Finding) -> str:
+    """Returns the line that reports on a trial."""
     return f"no   {what}: {finding.why}" if finding.why else f"yes  {what}"
 
 
@@ -156,13 +176,16 @@ def install(packages: list[str]) -> Optional[str]:
 
 
 def main() -> None:
-    parser(WHAT, "hinge doctor", "0 links in real time work, 7 they don't").parse_args()
-    packages, works = list[str](), True
-    for what, look in TRIALS.items():
-        show(line_of(what, finding := look()))
+    new_parser(WHAT, "hinge doctor", "0 links in real time work, 7 they don't").parse_args()
+    packages = list[str]()
+    works = True
+    for what, trial in TRIALS.items():
+        finding = trial()
+        show(line_of(what, finding))
         sys.stdout.flush()
         packages += finding.packages
-        works = works and not (finding.why and what.startswith("hinge run"))
+        if finding.why and what.startswith("hinge run"):
+            works = False
     line = install(packages)
     if line is not None:
         show(f"\nOn Debian this installs what is missing:\n  {line}")

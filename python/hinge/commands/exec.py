@@ -12,7 +12,7 @@ from typing import NoReturn
 from hinge.border.asking import asked_at, is_answered
 from hinge.border.messages import Order
 from hinge.border.scratch import held
-from hinge.command import NAME, parser, say
+from hinge.command import NAME, new_parser, say
 from hinge.run.doors import DOORS, started_behind
 from hinge.run.first import BLOCKED, status_of
 from hinge.run.names import socket_of
@@ -31,16 +31,16 @@ STATUSES = """\
 the command's own; 128 and the signal if one ended it; 126, 127 if it can't be executed; 2 a wrong word, or no such run or host; 6 the system
 refuses something"""
 SHELL = "sh"
-MOMENT = 1  # s
-VARIABLES = ("HINGE_HOST", "HINGE_NET")  # that a run may set: none by which a program is found or loaded
+MOMENT = 1  # s that a run needs at most to close its socket after its commands were killed
+VARIABLES = ("HINGE_HOST", "HINGE_NET")  # the variables that a run may set; none decides which program or library is loaded
 
 
 def command_line() -> argparse.Namespace:
-    line = parser(WHAT, EXAMPLE, STATUSES, f"{NAME[0]} SOCKET HOST [-- COMMAND [ARGUMENT ..]]")
-    line.add_argument("socket", metavar="SOCKET")
-    line.add_argument("host", metavar="HOST")
-    line.add_argument("command", nargs=argparse.REMAINDER, metavar="COMMAND", help=argparse.SUPPRESS)
-    arguments = line.parse_args()
+    parser = new_parser(WHAT, EXAMPLE, STATUSES, f"{NAME[0]} SOCKET HOST [-- COMMAND [ARGUMENT ..]]")
+    parser.add_argument("socket", metavar="SOCKET")
+    parser.add_argument("host", metavar="HOST")
+    parser.add_argument("command", nargs=argparse.REMAINDER, metavar="COMMAND", help=argparse.SUPPRESS)
+    arguments = parser.parse_args()
     if arguments.command[:1] == ["--"]:
         del arguments.command[0]
     arguments.command = arguments.command or [os.environ.get("SHELL", SHELL)]
@@ -48,7 +48,8 @@ def command_line() -> argparse.Namespace:
 
 
 def ends(socket: str) -> bool:
-    """Returns whether a run has ended or is about to end: its commands are killed before its socket closes."""
+    """Returns whether a run ends within a moment. A run's commands are killed before its socket closes, so the socket may still
+    answer at first."""
     until = time.monotonic() + MOMENT
     while is_answered(socket):
         if time.monotonic() > until:
@@ -62,14 +63,15 @@ def main() -> NoReturn:
     answer, doors = asked_at(arguments.socket, Order(enter=arguments.host))
     if len(doors) < DOORS:
         raise Wrong(f"{arguments.socket}: it opens no hosts")
-    os.environ.update({name: value for name, value in (answer.entered or {}).items() if name in VARIABLES})
+    variables = answer.entered or {}
+    os.environ.update({name: variables[name] for name in VARIABLES if name in variables})
     socket = os.path.abspath(socket_of(arguments.socket))
     mask = signal.pthread_sigmask(signal.SIG_BLOCK, BLOCKED)
     sys.stdout.flush()
-    before = held("/")
+    root = held("/")
     status = status_of(started_behind(doors, arguments.host, arguments.command, mask))
     if status == -signal.SIGKILL:
-        os.fchdir(before)
+        os.fchdir(root)
         os.chroot(".")
         if ends(socket):
             say("the run has ended, and the command with it")

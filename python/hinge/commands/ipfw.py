@@ -7,7 +7,7 @@ import sys
 from typing import Iterator
 
 from hinge.border.files import lines_in, told_name, untrusted
-from hinge.command import CONFIGURATION, Fault, parser, say
+from hinge.command import CONFIGURATION, Fault, new_parser, say
 from hinge.command_line import add
 from hinge.configurations.ipfw_lines import Conversion
 from hinge.foreign import answer_of
@@ -21,7 +21,7 @@ the exit status is 3 where that was a pipe or queue, or where there is none."""
 
 
 def text_lines(name: str) -> Iterator[str]:
-    """Yields the lines of a file. Fault: a zero byte shows that the file isn't text."""
+    """Yields the lines of a file. Fault: the file contains a zero byte, and so isn't text."""
     for line in lines_in(name, errors="replace"):
         if "\0" in line:
             raise Fault(f"{told_name(name)}: it isn't text", CONFIGURATION)
@@ -29,15 +29,16 @@ def text_lines(name: str) -> Iterator[str]:
 
 
 def main() -> None:
-    line = parser(
+    parser = new_parser(
         WHAT, "(ipfw() { echo ipfw $*; }; . ./shape.sh) | hinge ipfw > link.config\n  hinge ipfw rc.firewall > link.config"
     )
-    add(line, "files file", "files in the order in which they are run (default: standard input)", nargs="*", default=["-"])
-    line.add_argument("-o", metavar="FILE", help="the configuration (default: standard output)")
-    answer = answer_of(["ipfw", *sys.argv[1:]]) if not any(map(os.path.exists, sys.argv[1:])) else None
-    if answer is not None:
-        line.error(f"it reads files, and this is a line of ipfw; {answer.text()}")
-    arguments = line.parse_args()
+    add(parser, "files file", "files in the order in which they are run (default: standard input)", nargs="*", default=["-"])
+    parser.add_argument("-o", metavar="FILE", help="the configuration (default: standard output)")
+    if not any(map(os.path.exists, sys.argv[1:])):
+        answer = answer_of(["ipfw", *sys.argv[1:]])
+        if answer is not None:
+            parser.error(f"it reads files, and this is a line of ipfw; {answer.text()}")
+    arguments = parser.parse_args()
     refuse_inputs((arguments.o,), arguments.files)
     conversion = Conversion()
     for name in arguments.files:

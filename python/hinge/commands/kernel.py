@@ -10,7 +10,7 @@ from typing import Optional
 
 from hinge.arguments import bounded
 from hinge.border.terminal import show
-from hinge.command import parser, say
+from hinge.command import new_parser, say
 from hinge.command_line import add
 from hinge.program import clock
 from hinge.simulated import build, trial
@@ -35,20 +35,20 @@ hinge kernel --path
 
 
 def command_line() -> argparse.Namespace:
-    line = parser(WHAT, EXAMPLE, "0 done, 2 command line, 6 there is none, or it can't be built, 7 the clock isn't there")
-    line.add_argument("--source", metavar="FILE", type=Path, help="a packed source of Linux (the newest of /usr/src)")
-    add(line, "-j N", "compilers at a time (default: processors)", type=bounded(1, 1024), default=len(os.sched_getaffinity(0)))
-    line.add_argument("--again", action="store_true", help="also where it is built already")
-    line.add_argument("--path", action="store_true", help="print where the kernel is, and build nothing")
-    add(line, "--clock", "print where the library is that gives C code the simulated clock, to be preloaded", action="store_true")
+    parser = new_parser(WHAT, EXAMPLE, "0 done, 2 command line, 6 there is none, or it can't be built, 7 the clock isn't there")
+    parser.add_argument("--source", metavar="FILE", type=Path, help="a packed source of Linux (the newest of /usr/src)")
+    add(parser, "-j N", "compilers at a time (default: processors)", type=bounded(1, 1024), default=len(os.sched_getaffinity(0)))
+    parser.add_argument("--again", action="store_true", help="also where it is built already")
+    parser.add_argument("--path", action="store_true", help="print where the kernel is, and build nothing")
+    add(parser, "--clock", "print where the library is that gives C code the simulated clock, to be preloaded", action="store_true")
     for option in ("--path", "--clock"):
-        line.yields("--source -j --again", option)
-    line.yields("--path", "--clock")
-    return line.parse_args()
+        parser.yields("--source -j --again", option)
+    parser.yields("--path", "--clock")
+    return parser.parse_args()
 
 
-def made(source: Optional[Path], compilers: int) -> Path:
-    """Builds and tests the kernel; returns its folder."""
+def built_kernel(source: Optional[Path], compilers: int) -> Path:
+    """Builds the kernel from the packed source, by default the system's newest, and tests it; returns the kernel's folder."""
     start = time.monotonic()
     steps = build.Build(source or build.source(), compilers).run()
     sleep = trial.try_hour(next(steps))
@@ -60,15 +60,17 @@ def made(source: Optional[Path], compilers: int) -> Path:
 
 def main() -> None:
     arguments = command_line()
-    there = [] if arguments.again or arguments.source else list(current_kernels(cache()))
+    is_new = arguments.again or arguments.source
+    kernels = [] if is_new else list(current_kernels(cache()))
     if arguments.clock:
         show(clock())
     elif arguments.path:
         show(str(usable_kernel().folder))
-    elif there:
-        if not there[0].is_whole:
-            build.add_init(there[0])
+    elif kernels:
+        kernel = kernels[0]
+        if not kernel.is_whole:
+            build.add_init(kernel)
         say("it is built already; --again builds it anew")
-        show(str(there[0].folder))
+        show(str(kernel.folder))
     else:
-        show(str(made(arguments.source, arguments.j)))
+        show(str(built_kernel(arguments.source, arguments.j)))

@@ -1,4 +1,4 @@
-"""The command `hinge look`, which reports on a live session, a replay or a net: its flows, pictures, and the capture after a link."""
+"""The command `hinge look`, which reports on a live session, a replay or a net: the flows, pictures, and the capture after a link."""
 
 from __future__ import annotations
 
@@ -8,7 +8,7 @@ import sys
 
 from hinge.arguments import MODEL_NAMES, PICTURE_FLOWS, SOURCE, TABLE_FLOWS, LookOptions, add_flows, add_source, bounded, file_of
 from hinge.border.terminal import lines
-from hinge.command import MISSING, STATUSES, Fault, numpy, parser
+from hinge.command import MISSING, STATUSES, Fault, new_parser, numpy
 from hinge.command_line import add, Parser
 from hinge.outputs import CAPTURES, PICTURES, Format
 
@@ -44,82 +44,91 @@ MOST_REPORTS = 4
 
 
 def command_line() -> LookOptions:
-    line = parser(
+    parser = new_parser(
         WHAT, EXAMPLE, f"0 done, 1 histories differ or a net isn't lawful between its links, {STATUSES.partition(', ')[2]}"
     )
     add_source(
-        line,
+        parser,
         "(HISTORY | PACKETS REPORT .. | FOLDER | OPS ..)",
         told=f"{SOURCE}; the folder of hinge net --transcripts, or its history with its summary; or operations, and the file of their faults",
     )
-    add(line, "-o FILE", "the file to write, by its ending", type=file_of(*Format), action="append", default=[])
-    line.add_argument("--csv", action="store_true", help="print the table as CSV, with times in whole ns")
-    line.add_argument("--json", metavar="FILE", help="the table or the difference for a program, with all figures in whole ns")
-    line.add_argument("--diff", action="store_true", help="tell the first call at which two histories part, in place of the table")
-    add_flows(line, 10**6, None, f"{TABLE_FLOWS}, and {PICTURE_FLOWS} in a picture")
-    add(line, "--step MS", "ms of a step of throughput and drops (default: by the length)", type=bounded(1, 10**9))
-    line.add_argument("--title", type=lines, default="", help="what stands above a picture")
-    line.add_argument("--capture", metavar="FILE", help="the capture of the packet file, for .pcap and .pcapng")
-    line.add_argument("--index", metavar="FILE", help="the frame of each row, which hinge packets --index wrote")
-    line.add_argument("--model", choices=MODEL_NAMES, help="the source lists operations on such a thing, as of hinge check")
+    add(parser, "-o FILE", "the file to write, by its ending", type=file_of(*Format), action="append", default=[])
+    parser.add_argument("--csv", action="store_true", help="print the table as CSV, with times in whole ns")
+    parser.add_argument("--json", metavar="FILE", help="the table or the difference for a program, with all figures in whole ns")
+    parser.add_argument(
+        "--diff", action="store_true", help="tell the first call at which two histories part, in place of the table"
+    )
+    add_flows(parser, 10**6, None, f"{TABLE_FLOWS}, and {PICTURE_FLOWS} in a picture")
+    add(parser, "--step MS", "ms of a step of throughput and drops (default: by the length)", type=bounded(1, 10**9))
+    parser.add_argument("--title", type=lines, default="", help="what stands above a picture")
+    parser.add_argument("--capture", metavar="FILE", help="the capture of the packet file, for .pcap and .pcapng")
+    parser.add_argument("--index", metavar="FILE", help="the frame of each row, which hinge packets --index wrote")
+    parser.add_argument("--model", choices=MODEL_NAMES, help="the source lists operations on such a thing, as of hinge check")
     add(
-        line,
+        parser,
         "--end MS",
         "of a net: what a host got so shortly before the end may still be there (100)",
         type=bounded(0, 10**6),
         default=100,
     )
-    line.needs("--title --step --model", "-o")
-    line.yields("--by --top", "--diff")
-    line.yields("--config --csv --json --diff --by --top --step --capture --index --end", "--model")
-    options = LookOptions(**vars(line.parse_intermixed_args()))
-    refuse_mixed(line, options)
+    parser.needs("--title --step --model", "-o")
+    parser.yields("--by --top", "--diff")
+    parser.yields("--config --csv --json --diff --by --top --step --capture --index --end", "--model")
+    options = LookOptions(**vars(parser.parse_intermixed_args()))
+    refuse_mixed(parser, options)
     return options
 
 
-def refuse_mixed(line: Parser, options: LookOptions) -> None:
-    """Options that don't go together."""
+def refuse_mixed(parser: Parser, options: LookOptions) -> None:
+    """Refuses options that don't go together, and ends the process."""
     if options.model and len(options.files(*PICTURES)) < len(options.o):
-        line.error("--model draws -o FILE.png, FILE.svg or FILE.pdf")
+        parser.error("--model draws -o FILE.png, FILE.svg or FILE.pdf")
     if options.model and len(options.source) > 2:
-        line.error("--model takes a file of operations, and a net or a failure with the faults")
-    if "--end" in line.given and not is_net(options):
-        line.error("--end does nothing without a net")
-    if options.csv and options.source[1:] and options.source[-1].endswith(".csv") and not os.path.exists(options.source[-1]):
-        line.error(f"--csv prints the table; write --csv > {shlex.quote(options.source[-1])}")
+        parser.error("--model takes a file of operations, and a net or a failure with the faults")
+    if "--end" in parser.given and not is_net(options):
+        parser.error("--end does nothing without a net")
+    last = options.source[-1]
+    if options.csv and options.source[1:] and last.endswith(".csv") and not os.path.exists(last):
+        parser.error(f"--csv prints the table; write --csv > {shlex.quote(last)}")
     if options.diff and len(options.source) != 2:
-        line.error("--diff takes two histories")
+        parser.error("--diff takes two histories")
     if options.diff and (options.o or options.config or options.csv):
-        line.error("--diff goes with --json alone")
-    if bool(options.files(*CAPTURES)) != (options.capture is not None) or (options.capture is None) != (options.index is None):
-        line.error("--capture, --index and -o FILE.pcap or FILE.pcapng go together")
+        parser.error("--diff goes with --json alone")
+    needs_of_capture = (bool(options.files(*CAPTURES)), options.capture is not None, options.index is not None)
+    if any(needs_of_capture) and not all(needs_of_capture):
+        parser.error("--capture, --index and -o FILE.pcap or FILE.pcapng go together")
     several = len(options.source) > 2 and not options.diff
     if len(options.source) > 1 + MOST_REPORTS:
-        line.error("a packet file has up to four reports")
+        parser.error("a packet file has up to four reports")
     if several and (options.csv or options.json or options.files(Format.PAGE, *CAPTURES)):
-        line.error("of several reports there are pictures and tables to read: -o FILE.png, FILE.svg or FILE.pdf")
+        parser.error("of several reports there are pictures and tables to read: -o FILE.png, FILE.svg or FILE.pdf")
 
 
 def is_net(options: LookOptions) -> bool:
     """Returns whether the source is a net: a folder, or a history with a summary."""
-    from hinge.replays.record_lines import is_history_file  # as below
+    from hinge.replays.record_lines import is_history_file  # not at the top, because a help must not wait for this module
 
-    first, *more = options.source
-    return os.path.isdir(first) or (len(more) == 1 and not options.diff and more[0].endswith(".json") and is_history_file(first))
+    first, *others = options.source
+    if os.path.isdir(first):
+        return True
+    has_summary = len(others) == 1 and others[0].endswith(".json")
+    return has_summary and not options.diff and is_history_file(first)
 
 
 def look_at_ways(options: LookOptions, fault: Fault) -> None:
-    """Prints a net's ways from its history. Fault: always, since paths need numpy; the fault says so."""
+    """Prints a net's table, a row for each way (one direction of a link), without numpy. Fault: always, since the hosts and paths
+    need numpy."""
     from hinge.paths.folder import session_of
     from hinge.replays.looked import look
 
-    look(LookOptions(**vars(options) | {"source": session_of(*options.source).files[:1], "by": "target"}), MOST_REPORTS)
+    history = session_of(*options.source).files[:1]
+    look(LookOptions(**vars(options) | {"source": history, "by": "target"}), MOST_REPORTS)
     raise Fault(f"the hosts, the paths and the check between links: {fault}", MISSING)
 
 
 def main() -> None:
     options = command_line()
-    # What looks is loaded behind the command line, since a help has to come at once.
+    # The modules below aren't loaded at the top, because a help must not wait for them.
     if options.diff:
         from hinge.replays.looked import tell_difference
 

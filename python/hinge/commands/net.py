@@ -1,4 +1,4 @@
-"""Hosts of a net that a file describes, with any programs on any links, in real or simulated time."""
+"""The command `hinge net`, which runs any programs on the hosts of a net that a file describes, in real or simulated time."""
 
 from __future__ import annotations
 
@@ -7,7 +7,7 @@ import os
 import sys
 from typing import Sequence
 
-from hinge.command import parser
+from hinge.command import new_parser
 from hinge.command_line import add, Parser
 from hinge.events.forms import help_lines
 from hinge.foreign_options import OF_LINK
@@ -61,31 +61,32 @@ the links broke off; 76 two runs by --twice differ; 77 a deadlock, and 78 it was
 
 
 def options() -> Parser:
-    line = parser(WHAT, EXAMPLE, STATUSES, USAGE, WORDS)
-    line.add_argument("file", metavar="FILE", help="the net")
-    line.add_argument("--transcript", metavar="FILE", help="the history of all links, for `dummynet audit` and `hinge look`")
-    line.add_argument("--transcripts", metavar="FOLDER", help="a folder for the history, net.history, and the summary, net.json")
-    line.add_argument("--json", metavar="FILE", help="the summary for a program")
-    line.add_argument("--logs", metavar="FOLDER", help="what each host prints, in NAME.log")
+    """Returns a parser for the command line."""
+    parser = new_parser(WHAT, EXAMPLE, STATUSES, USAGE, WORDS)
+    parser.add_argument("file", metavar="FILE", help="the net")
+    parser.add_argument("--transcript", metavar="FILE", help="the history of all links, for `dummynet audit` and `hinge look`")
+    parser.add_argument("--transcripts", metavar="FOLDER", help="a folder for the history, net.history, and the summary, net.json")
+    parser.add_argument("--json", metavar="FILE", help="the summary for a program")
+    parser.add_argument("--logs", metavar="FOLDER", help="what each host prints, in NAME.log")
     late = "status 75 where more than 1 of 100 packets of a way was late or unread by more, or the system dropped any"
-    line.add_argument("--late", metavar="TIME", help=late)
-    line.add_argument("--seed", metavar="N", type=seed, help="of what is drawn, for each way by itself (drawn, and told)")
-    line.add_argument("--mtu", metavar="BYTES", type=mtu, default=1500, help="of all interfaces (1500)")
-    line.add_argument("--end-wait", metavar="TIME", default="2s", help="how long commands have to end after SIGTERM (2s)")
-    add_staying(line)
-    line.add_argument("--quiet", action="store_true", help="no summary of the links")
+    parser.add_argument("--late", metavar="TIME", help=late)
+    parser.add_argument("--seed", metavar="N", type=seed, help="of what is drawn, for each way by itself (drawn, and told)")
+    parser.add_argument("--mtu", metavar="BYTES", type=mtu, default=1500, help="of all interfaces (1500)")
+    parser.add_argument("--end-wait", metavar="TIME", default="2s", help="how long commands have to end after SIGTERM (2s)")
+    add_staying(parser)
+    parser.add_argument("--quiet", action="store_true", help="no summary of the links")
     realtime = "the links before all other programs, where the system allows"
-    add(line, "--realtime", realtime, action=argparse.BooleanOptionalAction, default=True)
-    line.add_argument("--dry-run", action="store_true", help="prints hosts, addresses and links, and starts nothing")
-    line.yields("--outside", "--outside-loopback")
-    line.yields("--stay", "--while-open")
-    add_simulated(line)
-    add_foreign(line, OF_RUN)
-    return line
+    add(parser, "--realtime", realtime, action=argparse.BooleanOptionalAction, default=True)
+    parser.add_argument("--dry-run", action="store_true", help="prints hosts, addresses and links, and starts nothing")
+    parser.yields("--outside", "--outside-loopback")
+    parser.yields("--stay", "--while-open")
+    add_simulated(parser)
+    add_foreign(parser, OF_RUN)
+    return parser
 
 
 def add_staying(parser: argparse.ArgumentParser) -> None:
-    """Adds the options for ways into and out of a net, and for its duration."""
+    """Adds the options for access to a net from outside, for its way out, and for its duration."""
     parser.add_argument("--control", metavar="SOCKET", help="where `hinge change`, `status` and `exec` find it")
     add(parser, "--outside HOST", "a host leads to the rest of the network, by slirp4netns or pasta: a router for all hosts")
     add(parser, "--outside-loopback HOST", "the same, with this system's own loopback at 10.9.0.2 and fd00::2")
@@ -96,22 +97,24 @@ def add_staying(parser: argparse.ArgumentParser) -> None:
 
 
 def descriptor(text: str) -> int:
+    """Returns an open file's descriptor, which the net's programs don't inherit. ArgumentTypeError: there is no such open file."""
     try:
-        os.set_inheritable(int(text), False)
-        return int(text)
+        number = int(text)
+        os.set_inheritable(number, False)
+        return number
     except (ValueError, OSError, OverflowError):
         raise argparse.ArgumentTypeError(f"{text!r} isn't an open descriptor") from None
 
 
 def command_line(words: Sequence[str]) -> NetOptions:
-    """Returns the options, with the main command after `--` as `command`."""
-    at = words.index("--") if "--" in words else len(words)
-    return NetOptions(**vars(options().parse_args(words[:at])), command=list(words[at + 1 :]))
+    """Returns the options, in which `command` is the main command from after `--`."""
+    end = words.index("--") if "--" in words else len(words)
+    return NetOptions(**vars(options().parse_args(words[:end])), command=list(words[end + 1 :]))
 
 
 def main() -> None:
     with repeated_net(sys.argv[1:]) as words:
         arguments = command_line(words)
-        from hinge.net.begun import run  # behind the command line, since a help has to come at once
+        from hinge.net.begun import run  # not at the top, because a help must not wait for this module
 
         run(arguments)

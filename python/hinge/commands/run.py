@@ -10,14 +10,14 @@ from typing import NoReturn, Optional, Sequence
 
 from hinge.arguments import bounded
 from hinge.border.programs import CANNOT_EXECUTE
-from hinge.command import NOT_FOUND, Fault, parser, say
+from hinge.command import NOT_FOUND, Fault, new_parser, say
 from hinge.command_line import add, Parser
 from hinge.run.options import add_link, add_run, mtu
 from hinge.run.settings import RunOptions
 from hinge.simulated.failures import failure_command
 from hinge.simulated.time_options import add_simulated
 
-OF_OWN_HOSTS = ("server", "to", "outside", "outside_loopback", "net", "simulated")  # options that --netns excludes
+OF_OWN_HOSTS = ("server", "to", "outside", "outside_loopback", "net", "simulated")  # options that can't be used with --netns
 USAGE = "hinge run [OPTION ..] [--] COMMAND [ARGUMENT ..]"
 WHAT = """\
 Runs COMMAND behind an emulated link: what it sends goes through pipe 1 to the host `server` (10.8.0.2, fd08::2), what comes back through pipe 2."""
@@ -35,9 +35,10 @@ differ; 77 a deadlock, and 78 it was ended by --limit, in simulated time; 124 it
 
 
 def options() -> Parser:
-    line = parser(WHAT, EXAMPLE, STATUSES, USAGE)
-    add_link(line)
-    more = line.add_argument_group("the run")
+    """Returns a parser for the command line."""
+    parser = new_parser(WHAT, EXAMPLE, STATUSES, USAGE)
+    add_link(parser)
+    more = parser.add_argument_group("the run")
     more.add_argument("--mtu", metavar="BYTES", type=mtu, default=1500, help="of both interfaces (1500)")
     add(more, "--net NETWORK", "of both hosts, for a run inside another one or beside a network of your own (10.8.0.0/24)")
     there = "puts the link on the way out of a container or network that is there, in IPv4, as root; without COMMAND until ^C"
@@ -51,36 +52,38 @@ def options() -> Parser:
     port = "this system's port behind the link: the command finds it at localhost, and at server"
     add(more, "--to PORT", port, type=bounded(1, 65535), action="append", default=[])
     add_run(more)
-    line.needs("--server-wait --server-end", "--server")
-    line.yields("--outside", "--outside-loopback")
-    line.yields("--netns", "--container")
-    add_simulated(line)
-    line.add_argument("command", nargs=argparse.REMAINDER, metavar="COMMAND", help=argparse.SUPPRESS)
-    return line
+    parser.needs("--server-wait --server-end", "--server")
+    parser.yields("--outside", "--outside-loopback")
+    parser.yields("--netns", "--container")
+    add_simulated(parser)
+    parser.add_argument("command", nargs=argparse.REMAINDER, metavar="COMMAND", help=argparse.SUPPRESS)
+    return parser
 
 
-def options_and_command(line: Parser, words: Sequence[str]) -> argparse.Namespace:
-    """Returns the options, and the command without its `--`."""
-    arguments = line.parse_args(words)
-    from hinge.run.hints import link_as_command  # as all below, behind the command line, since a help has to come at once
+def options_and_command(parser: Parser, words: Sequence[str]) -> argparse.Namespace:
+    """Returns the options, whose field `command` is the command without its `--`; refuses a line without a command."""
+    arguments = parser.parse_args(words)
+    from hinge.run.hints import link_as_command  # not at the top, here and below, because a help must not wait for these modules
 
     if arguments.command[:1] == ["--"]:
         del arguments.command[0]
     if not arguments.command and arguments.netns is None and arguments.container is None:
-        line.error("no command: it is at the end, behind --, as in hinge run --preset lte -- ping -c 3 server")
+        parser.error("no command: it is at the end, behind --, as in hinge run --preset lte -- ping -c 3 server")
     link = link_as_command(arguments.command)
     if link is not None:
-        line.error(link)
+        parser.error(link)
     return arguments
 
 
 def command_line(words: Optional[Sequence[str]] = None) -> RunOptions:
+    """Returns the options, in which --container is replaced by its process. Fault: the command can't be executed."""
     arguments = options_and_command(options(), failure_command(sys.argv[1:] if words is None else [*words], "run"))
     from hinge.run.hints import lacking
 
-    missing = lacking(arguments.command) if arguments.root is None else None
-    if missing is not None:
-        raise Fault(missing, CANNOT_EXECUTE if os.path.isfile(arguments.command[0]) else NOT_FOUND)
+    fault = lacking(arguments.command) if arguments.root is None else None
+    if fault is not None:
+        is_file = os.path.isfile(arguments.command[0])
+        raise Fault(fault, CANNOT_EXECUTE if is_file else NOT_FOUND)
     if arguments.container is not None:
         from hinge.run.joined import process_of
 
@@ -89,7 +92,7 @@ def command_line(words: Optional[Sequence[str]] = None) -> RunOptions:
 
 
 def refuse_beside_netns(run: RunOptions) -> None:
-    """Wrong: an option doesn't apply to an existing network."""
+    """Refuses options that configure hosts if --netns joins existing hosts. Wrong: there is such an option."""
     names = [f"--{name.replace('_', '-')}" for name in OF_OWN_HOSTS if getattr(run, name)]
     from hinge.run.words import Wrong
 
@@ -106,12 +109,15 @@ def main() -> None:
     from hinge.run.two_hosts import ends_of
     from hinge.simulated import start
 
-    ends_of(run.net), plan_of(run, run.mtu)  # so that a wrong word is told before a machine is made
+    # These two calls refuse a wrong word before a machine is built.
+    ends_of(run.net)
+    plan_of(run, run.mtu)
     tell_hints(run)
     sys.exit(start.run_simulated(run))
 
 
 def tell_hints(run: RunOptions) -> None:
+    """Prints hints on options or commands that the user probably means differently."""
     from hinge.run.hints import hints
 
     for hint in hints(run):
@@ -136,14 +142,15 @@ def begin(run: RunOptions) -> NoReturn:
     ends = ends_of(run.net)
     network = network_of(run.netns) if run.netns is not None else None
     order = order_of(run, run.mtu, mask, run.server_wait, run.server_end)
-    signal.pthread_sigmask(signal.SIG_BLOCK, BLOCKED)  # once all files are read, which a FIFO may put off for ever
+    signal.pthread_sigmask(signal.SIG_BLOCK, BLOCKED)  # only now, since reading a file may wait for a FIFO's writer
     if not is_simulated():
         tell_hints(run)
     sys.stdout.flush()
-    # Before this process leaves the network that it joins.
+    # The outside and the ports begin in the network that this process leaves below.
     outside = Outside(run.outside_loopback, ends.network) if run.outside or run.outside_loopback else None
     ports = Ports(run.to) if run.to else None
-    for port in ports.silent() if ports else ():
+    silent = ports.silent() if ports is not None else ()
+    for port in silent:
         say(f"--to {port}: nothing listens at this system's port {port} now")
     own_users = leave_the_system()
     first = first_process(lambda: Inside(run, order, own_users, outside, network, ports).run())

@@ -1,4 +1,4 @@
-"""How a link that runs is doing."""
+"""The command `hinge status`, which prints the counts of a running link."""
 
 from __future__ import annotations
 
@@ -6,7 +6,7 @@ import json
 
 from hinge.border.asking import ask
 from hinge.border.terminal import show
-from hinge.command import parser
+from hinge.command import new_parser
 from hinge.run.openmetrics import openmetrics
 
 WHAT = """\
@@ -15,13 +15,13 @@ names there, or a name of hinge up. With --openmetrics a monitor as Prometheus c
 
 
 def main() -> None:
-    line = parser(
+    parser = new_parser(
         WHAT,
         "hinge run --control link.socket --up 10Mbit/s -- bash\n  hinge status link.socket",
         "0 done, 2 no such run, 6 the system refuses something",
     )
-    line.add_argument("socket", metavar="SOCKET")
-    line.add_argument("--openmetrics", action="store_true", help="in the text format of OpenMetrics")
-    arguments = line.parse_args()
+    parser.add_argument("socket", metavar="SOCKET")
+    parser.add_argument("--openmetrics", action="store_true", help="in the text format of OpenMetrics")
+    arguments = parser.parse_args()
     status = ask(arguments.socket, status=True).status or {}
     show(openmetrics(status) if arguments.openmetrics else json.dumps(status, indent=1))

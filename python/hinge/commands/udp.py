@@ -14,7 +14,7 @@ from typing import NamedTuple
 from hinge.arguments import is_number
 from hinge.border.terminal import show
 from hinge.checks.lines import refuse_wrong
-from hinge.command import FILES, parser
+from hinge.command import FILES, new_parser
 from hinge.command_line import add, Parser
 from hinge.replays.units import socket_address
 from hinge.run.host import Link, program
@@ -28,7 +28,7 @@ from hinge.run.system import Missing
 from hinge.run.words import Wrong, read_lines
 from hingetulip_words.link import Place, corrected
 
-LONGEST = 1500  # bytes of a packet, by which outages are reckoned
+LONGEST = 1500  # bytes of the longest packet, which an outage has to hold up
 SIGNALS = {signal.SIGCHLD, signal.SIGTERM, signal.SIGHUP, signal.SIGINT}
 WHAT = """\
 Sends what comes to LISTEN through pipe 1 to SERVER, and what SERVER sends back through pipe 2, until ^C. Prints `ready at HOST:PORT` once it
@@ -43,62 +43,67 @@ STATUSES = """\
 
 
 class SocketAddress(NamedTuple):
-    """A host, which may be empty, and a port."""
+    """Describes a host, by an address or a name that may be empty, and a port."""
 
     host: str
     port: int
 
     @classmethod
     def read(cls, text: str) -> SocketAddress:
-        """Reads an address: PORT, HOST:PORT or [HOST]:PORT. ArgumentTypeError: the text has another form."""
+        """Returns the address in a text: PORT, HOST:PORT or [HOST]:PORT. ArgumentTypeError: the text has another form."""
         host, _, port = text.rpartition(":")
         if not (is_number(port) and int(port) < 65536):
             raise argparse.ArgumentTypeError(f"{text!r} is neither PORT nor HOST:PORT")
-        return cls(host[1:-1] if host.startswith("[") and host.endswith("]") else host, int(port))
+        if host.startswith("[") and host.endswith("]"):
+            host = host[1:-1]
+        return cls(host, int(port))
 
 
-def found_address(address: SocketAddress, family: int) -> tuple[int, tuple[str, int]]:
-    """Returns the family, numeric host and port of an address in a given family. Wrong: there is no such address."""
+def address_in(address: SocketAddress, family: int) -> tuple[int, tuple[str, int]]:
+    """Returns the family, numeric host and port of an address; `family` 0 allows any family. Wrong: there is no such address."""
+    loopback = "::1" if family == socket.AF_INET6 else "127.0.0.1"
     try:
-        infos = socket.getaddrinfo(
-            address.host or ("::1" if family == socket.AF_INET6 else "127.0.0.1"), address.port, family, socket.SOCK_DGRAM
-        )
+        infos = socket.getaddrinfo(address.host or loopback, address.port, family, socket.SOCK_DGRAM)
     except socket.gaierror as fault:
-        other = " of the family of LISTEN" if family else ""
-        raise Wrong(f"{address.host}: no address{other}: {fault.strerror}") from None
-    choice = min(infos, key=lambda info: info[0] != socket.AF_INET)  # localhost is 127.0.0.1, where the family is open
-    return choice[0], (str(choice[4][0]), int(choice[4][1]))
+        condition = " of the family of LISTEN" if family else ""
+        raise Wrong(f"{address.host}: no address{condition}: {fault.strerror}") from None
+    info = min(infos, key=lambda info: info[0] != socket.AF_INET)  # IPv4 first, so that localhost is 127.0.0.1
+    host, port = info[4][:2]
+    return info[0], (str(host), int(port))
 
 
-def links_in_order(words: list[str]) -> list[str]:
-    """Returns the configuration lines. A LINK with a space is a line, otherwise a file. Wrong: it is a link's words."""
+def lines_of_links(words: list[str]) -> list[str]:
+    """Returns the configuration lines of the arguments LINK. An argument with a space is a line, otherwise a file with lines.
+    Wrong: an argument consists of link words."""
     lines = list[str]()
     for word in words:
         link = None if os.path.exists(word) else corrected(word, Place.RUN)
-        if " " in word and not link:
-            new = word.splitlines()
-            refuse_wrong(new, [0] * len(new), "", "LINK")
-        elif link:
+        if link:
             raise Wrong(f"LINK: {word!r} isn't a line or a file of lines; write --link {shlex.quote(link)}")
+        if " " in word:
+            lines_of_word = word.splitlines()
+            refuse_wrong(lines_of_word, [0] * len(lines_of_word), "", "LINK")
         else:
-            new = [*read_lines(word)]
-            refuse_wrong(new, range(1, len(new) + 1), word)
-        lines += new
+            lines_of_word = [*read_lines(word)]
+            refuse_wrong(lines_of_word, range(1, len(lines_of_word) + 1), word)
+        lines += lines_of_word
     return lines
 
 
 def options() -> Parser:
-    line = parser(WHAT, EXAMPLE, STATUSES, "hinge udp [OPTION ..] LISTEN SERVER [LINK ..]")
-    add(line, "listen LISTEN", "PORT or HOST:PORT to which the client sends; port 0 takes a free one", type=SocketAddress.read)
-    add(line, "server SERVER", "PORT or HOST:PORT of the server, of the same family", type=SocketAddress.read)
-    add(line, "links LINK", "a configuration line, or a file of such lines, as --line and --config", nargs="*", default=[])
-    add_link(line, OF_RUN)
-    add_run(line.add_argument_group("the run"))
-    return line
+    """Returns a parser for the command line."""
+    parser = new_parser(WHAT, EXAMPLE, STATUSES, "hinge udp [OPTION ..] LISTEN SERVER [LINK ..]")
+    add(parser, "listen LISTEN", "PORT or HOST:PORT to which the client sends; port 0 takes a free one", type=SocketAddress.read)
+    add(parser, "server SERVER", "PORT or HOST:PORT of the server, of the same family", type=SocketAddress.read)
+    add(parser, "links LINK", "a configuration line, or a file of such lines, as --line and --config", nargs="*", default=[])
+    add_link(parser, OF_RUN)
+    add_run(parser.add_argument_group("the run"))
+    return parser
 
 
 def bound_socket(address: SocketAddress) -> socket.socket:
-    family, place = found_address(address, socket.AF_INET if not address.host else 0)
+    """Returns a datagram socket at an address. Missing: the system refuses the address."""
+    family, place = address_in(address, socket.AF_INET if not address.host else 0)
     sock = socket.socket(family, socket.SOCK_DGRAM)
     try:
         sock.bind(place)
@@ -107,13 +112,17 @@ def bound_socket(address: SocketAddress) -> socket.socket:
     return sock
 
 
-def what_is_carried(order: Order, front: socket.socket, server: tuple[str, int]) -> int:
-    """Has the host carry datagrams until a signal comes; the status."""
-    page, processes = Page(), Processes(SIGNALS)
-    control = order.control(page, lambda: record(page.read(), [way["dropped"] for way in page.read().ways], None, order.seed, []))
-    link = Link(
-        processes, page, ["udp", str(front.fileno()), server[0], str(server[1])], [front.fileno()], order.plan, order.mask, control
-    )
+def forward_datagrams(order: Order, front: socket.socket, server: tuple[str, int]) -> int:
+    """Forwards datagrams between a socket and the server until a signal arrives; returns the exit status."""
+    page = Page()
+    processes = Processes(SIGNALS)
+
+    def dropped() -> list[int]:
+        return [way["dropped"] for way in page.read().ways]
+
+    control = order.control(page, lambda: record(page.read(), dropped(), None, order.seed, []))
+    words = ["udp", str(front.fileno()), server[0], str(server[1])]
+    link = Link(processes, page, words, [front.fileno()], order.plan, order.mask, control)
     fault = link.failed()
     if fault is not None:
         return fault
@@ -124,9 +133,9 @@ def what_is_carried(order: Order, front: socket.socket, server: tuple[str, int])
     show(f"ready at {socket_address(host, port)}")
     sys.stdout.flush()
     watch = Watch(page) if order.options.watch else None
-    came = processes.wait(link.process, ticker=Ticker(watch.tick) if watch else None)
+    end_signal = processes.wait(link.process, ticker=Ticker(watch.tick) if watch else None)
     link.end()
-    return report(order, page, [way["dropped"] for way in page.read().ways], FILES if came is None else 0)
+    return report(order, page, dropped(), FILES if end_signal is None else 0)
 
 
 def main() -> None:
@@ -136,17 +145,17 @@ def main() -> None:
     links = arguments.pop("links")
     mask = signal.pthread_sigmask(signal.SIG_BLOCK, ())
     program()
-    lines = [*arguments.pop("line"), *links_in_order(links)]
+    lines = [*arguments.pop("line"), *lines_of_links(links)]
     files = [word for word in links if " " not in word]
     order = order_of(LiveOptions(**arguments, line=lines, more_files=files), LONGEST, mask)
     if any(extra.corrupt for extra, _ in order.made.extras.values()):
         raise Wrong("corrupt: each datagram is sent with a checksum of its own, which no flipped bit breaks; write loss 1%")
-    signal.pthread_sigmask(signal.SIG_BLOCK, SIGNALS)  # once all files are read, which a FIFO may put off for ever
+    signal.pthread_sigmask(signal.SIG_BLOCK, SIGNALS)  # only now, since reading a file may wait for a FIFO's writer
     with bound_socket(listen) as front:
         if not server.port:
             raise Wrong("SERVER: no server listens at port 0; write the server's port")
-        _, place = found_address(server, front.family)
+        _, place = address_in(server, front.family)
         if place == front.getsockname()[:2]:
             raise Wrong(f"SERVER: {socket_address(*place)} is LISTEN itself, and each datagram would come again for ever")
-        status = what_is_carried(order, front, place)
+        status = forward_datagrams(order, front, place)
     sys.exit(status)

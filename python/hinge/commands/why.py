@@ -5,10 +5,11 @@ from __future__ import annotations
 import argparse
 import os
 from itertools import takewhile
+from typing import NamedTuple, Optional
 
 from hinge.arguments import SOURCE, add_source, bounded
 from hinge.border.terminal import show
-from hinge.command import parser
+from hinge.command import new_parser
 
 WHAT = """\
 Tells what happened to a row of a packet file, or to a packet of a run, in a paragraph: for whom it waited and how
@@ -24,32 +25,47 @@ hinge why 17 packets.csv report.csv --config dsl.config
   hinge why 17 session                              # a net's folder"""
 
 
-def main() -> None:
-    line = parser(WHAT, EXAMPLE)
-    add_source(line, "ROW .. (HISTORY | FOLDER | [CONFIG] PACKETS REPORT)", "ROW .. SOURCE", f"{ROWS}, and behind them {SOURCE}")
-    arguments = line.parse_intermixed_args()
+class WhyOptions(NamedTuple):
+    """Describes the rows to explain and their source: a history, a net's folder, or a packet file and a report."""
+
+    rows: list[int]
+    files: list[str]
+    config: Optional[str]  # the configuration file of a packet file's replay
+
+
+def command_line() -> WhyOptions:
+    parser = new_parser(WHAT, EXAMPLE)
+    add_source(parser, "ROW .. (HISTORY | FOLDER | [CONFIG] PACKETS REPORT)", "ROW .. SOURCE", f"{ROWS}, and behind them {SOURCE}")
+    arguments = parser.parse_intermixed_args()
     numbers = list(takewhile(str.isdecimal, arguments.source))
-    files, config = arguments.source[len(numbers) :], arguments.config
+    files = arguments.source[len(numbers) :]
     if not numbers:
-        right = "; write hinge why ROW SOURCE, with a number from 1 on for ROW" if not any(map(os.path.exists, files)) else ""
-        line.error(f"{files[0]!r} isn't the number of a row{right}")
+        refusal = f"{files[0]!r} isn't the number of a row"
+        if not any(map(os.path.exists, files)):
+            refusal += "; write hinge why ROW SOURCE, with a number from 1 on for ROW"
+        parser.error(refusal)
     if not files:
-        line.error(f"behind the rows comes {SOURCE}; write hinge why {numbers[0]} HISTORY")
-    if len(files) == 3 and config is None:
-        config, *files = files
+        parser.error(f"behind the rows comes {SOURCE}; write hinge why {numbers[0]} HISTORY")
     try:
         rows = list(map(bounded(1, 2**62), numbers))
     except argparse.ArgumentTypeError as wrong:
-        line.error(str(wrong))
-    if os.path.isdir(files[0]):
-        from hinge.paths.hops import Hops
+        parser.error(str(wrong))
+    if len(files) == 3 and arguments.config is None:
+        return WhyOptions(rows, files[1:], files[0])  # the configuration is the first of three files
+    return WhyOptions(rows, files, arguments.config)
 
-        hops = Hops(files[0])
-        show("\n\n".join(map(hops.paragraph, rows)))
+
+def main() -> None:
+    options = command_line()
+    if os.path.isdir(options.files[0]):
+        from hinge.paths.hops import Hops  # not at the top, here and below, because a help must not wait for these modules
+
+        hops = Hops(options.files[0])
+        show("\n\n".join(map(hops.paragraph, options.rows)))
         return
-    from hinge.replays.explain import Explainer  # as the next, behind the command line, since a help has to come at once
+    from hinge.replays.explain import Explainer
     from hinge.replays.history import read_sources
 
-    [source] = read_sources(files, config)
+    [source] = read_sources(options.files, options.config)
     explainer = Explainer(source.explained())
-    show("\n\n".join(explainer.paragraph(row) for row in rows))
+    show("\n\n".join(map(explainer.paragraph, options.rows)))

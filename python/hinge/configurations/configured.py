@@ -15,55 +15,68 @@ LOSS_PARTS = 2**31
 
 
 class LineFault(Fault):
-    """The first line that the program refuses, as in `config line 3, word 5: bad number`."""
+    """Raised with the place of the first line that the program refuses, as in `config line 3, word 5: bad number`."""
 
     status = CONFIGURATION
 
 
 @dataclass(frozen=True)
 class Limit:
+    """Describes how many packets or kilobytes a queue can hold; the other field is None."""
+
     slots: Optional[int]
     kbytes: Optional[int]
 
 
 @dataclass(frozen=True)
 class Pipe:
+    """Describes the setting of a pipe."""
+
     number: int
-    bw: int
-    delay: int
+    bw: int  # bit/s; 0 for no limit
+    delay: int  # ms
     limit: Limit
-    loss: int
+    loss: int  # the rate times LOSS_PARTS
 
 
 @dataclass(frozen=True)
 class Queue:
+    """Describes the setting of a queue, which shares a pipe with other queues."""
+
     number: int
-    pipe: int
-    weight: int
+    pipe: int  # the number of the pipe
+    weight: int  # the queue's share of the pipe, relative to other queues
     limit: Limit
-    loss: int
+    loss: int  # the rate times LOSS_PARTS
 
 
 Setting = Union[Pipe, Queue]
 
 
-RECORD = "c,0,configure,"
+RECORD = "c,0,configure,"  # how a history's record of a configuration line begins
 
 
 def setting_of(text: str) -> tuple[str, int, Optional[Setting]]:
-    """Returns the content of a command in the program's spelling: `pipe` or `queue`, its number, and the setting, or None for a
-    delete."""
+    """Returns the content of a configuration line in the program's spelling: `pipe` or `queue`, the number, and the setting; None
+    as the setting for a delete."""
     words = text.split()
     if words[1] == "delete":
         return words[0], int(words[2]), None
     number = int(words[1])
-    value = dict(zip(words[3:], words[4:]))
-    size = value.get("queue", "50")
-    limit = Limit(None, int(size[:-6])) if size.endswith("Kbytes") else Limit(int(size), None)
-    loss = int(Fraction(value.get("plr", "0")) * LOSS_PARTS)  # the whole part, as the program keeps it
+    values = dict(zip(words[3:], words[4:]))
+    limit = limit_of(values.get("queue", "50"))
+    loss = int(Fraction(values.get("plr", "0")) * LOSS_PARTS)  # the whole part, as the program keeps it
     if words[0] == "pipe":
-        return "pipe", number, Pipe(number, int(value.get("bw", "0bit/s")[:-5]), int(value.get("delay", 0)), limit, loss)
-    return "queue", number, Queue(number, int(value["pipe"]), int(value.get("weight", 1)), limit, loss)
+        bandwidth = int(values.get("bw", "0bit/s").removesuffix("bit/s"))
+        return "pipe", number, Pipe(number, bandwidth, int(values.get("delay", 0)), limit, loss)
+    return "queue", number, Queue(number, int(values["pipe"]), int(values.get("weight", 1)), limit, loss)
+
+
+def limit_of(text: str) -> Limit:
+    """Returns the limit in a text such as `50` or `64Kbytes`."""
+    if text.endswith("Kbytes"):
+        return Limit(None, int(text.removesuffix("Kbytes")))
+    return Limit(int(text), None)
 
 
 def spelled_lines(data: bytes) -> list[str]:
@@ -78,7 +91,7 @@ def spelled_lines(data: bytes) -> list[str]:
 
 
 class InForce:
-    """The pipes and queues that commands leave in force, by number."""
+    """Holds the pipes and queues that configuration lines leave in force, by number."""
 
     def __init__(self, commands: Iterable[str] = ()) -> None:
         self.pipes: dict[int, Pipe] = {}
@@ -87,6 +100,7 @@ class InForce:
             self.obey(text)
 
     def obey(self, text: str) -> None:
+        """Adds, replaces or deletes the pipe or queue of a configuration line."""
         kind, number, setting = setting_of(text)
         table: dict[int, Setting] = self.pipes if kind == "pipe" else self.queues  # type: ignore[assignment]
         table.pop(number, None)

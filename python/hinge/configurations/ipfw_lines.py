@@ -8,7 +8,7 @@ from decimal import Decimal, InvalidOperation
 from typing import Iterable, Iterator, NamedTuple, Optional
 
 from hinge.border.files import Budget, Exceeded
-from hinge.checks.lines import judged_lines, refuse_long
+from hinge.checks.lines import Verdict, judged_lines, refuse_long
 from hingetulip_words.values import FACTOR
 
 ASSIGNMENT = re.compile(r"""(?:export\s+)?([A-Za-z_]\w*)=("[^"]*"|'[^']*'|[^\s;'"]*)""")
@@ -28,113 +28,129 @@ WHOLE_MASKS = {
     "proto": ("/8", "0xff"),
 }
 BYTES_PER_KBYTE = 1024
-BLANKS = re.compile(r"\s+")  # of which the rules above read several again and again
+BLANKS = re.compile(r"\s+")  # many blanks in a row would slow the patterns above
 COMMENT = re.compile(r"(?:^|\s)#.*")
-MOST_NOTES, MOST_JOINED = 10_000, 1 << 16
-FREE, TIMES = 1 << 20, 16  # letters for which variables may stand, and how many more for each of a file
+MOST_NOTES = 10_000
+MOST_JOINED = 1 << 16  # letters of a line with the lines that a backslash joins to it
+FREE = 1 << 20  # letters that a file's variables may expand to
+TIMES = 16  # letters that variables may expand to in addition, for each letter of the file
+SHOWS = re.compile(r"\s(?:add|show|list)\s")
+SCHEDULER = "schedulers other than WF2Q+ are left out"
 
 
 class LeftOut(Exception):
-    """Why a command is left out."""
+    """Raised with the reason why a command is left out."""
 
 
 class Candidate(NamedTuple):
-    """A line that the program hasn't judged yet."""
+    """Describes a configuration line that the program dummynet hasn't checked yet."""
 
-    note: int  # how many notes there were before
-    place: str
-    command: str
+    note: int  # the number of notes before this line's
+    place: str  # the file and the line's number
+    command: str  # the command in the file
     line: str
 
 
 @dataclass
 class Conversion:
-    """The configuration lines so far, and the notes on their sources."""
+    """Holds the converted configuration lines, and notes on changes and omissions."""
 
     variables: dict[str, str] = field(default_factory=dict)
     lines: list[str] = field(default_factory=list)
     notes: list[str] = field(default_factory=list)
-    left_out: int = 0  # commands that configure or delete a pipe or queue
+    left_out: int = 0  # the number of omitted commands for pipes and queues
     candidates: list[Candidate] = field(default_factory=list)
-    emptied: bool = False  # by a flush
-    budget: Budget = field(default_factory=lambda: Budget(0, ""))  # of letters that variables stand for
+    emptied: bool = False  # whether a flush deleted all lines
+    budget: Budget = field(default_factory=lambda: Budget(0, ""))  # the letters that variables may still expand to
 
     def say(self, place: str, text: str) -> None:
-        """Adds a note for the end of the output; after very many notes, only adds that there are more."""
+        """Adds a note to print at the end. After very many notes, adds a last note that there would be more."""
         if len(self.notes) < MOST_NOTES:
             self.notes.append(f"{place}: {text}")
         elif len(self.notes) == MOST_NOTES:
             self.notes.append(f"{place}: there is more to say from here on")
 
     def read(self, name: str, lines: Iterable[str]) -> None:
-        """Reads the lines of a file. Exceeded: its variables expand far beyond its length, or a line is too long."""
+        """Reads the lines of a file. Exceeded: the file's variables expand far beyond its length, or a line is too long."""
         self.budget = Budget(FREE, "letters for which variables stand")
         for number, line in joined_lines(lines):
             self.budget.add(TIMES * len(line))
             self.read_line(f"{name}:{number}", line)
 
-    def take(self, place: str, command: str) -> None:
-        """Reads a command; adds notes on its omitted parts."""
+    def convert(self, place: str, command: str) -> None:
+        """Reads a command. If the command can't be converted, counts it as left out, and notes the reason."""
         try:
             self.read_command(place, command)
         except LeftOut as reason:
             self.left_out += 1
             self.say(place, f"left out: {command.strip()} ({reason})")
 
-    def unsure(self, commands: list[str]) -> Optional[str]:
-        """Explains why a configuring line can't be converted: a variable that only a shell knows, or a scheduler."""
+    def reason_to_omit(self, commands: list[str]) -> Optional[str]:
+        """Returns why a command in a line can't be converted: the command contains a variable that only a shell knows, or
+        configures a scheduler. Returns None if all commands can be converted."""
         for command in (self.expanded(command) for command in commands):
-            if UNSURE.search(command) and not HEAD.search(command) and not re.search(r"\s(?:add|show|list)\s", command):
+            if UNSURE.search(command) and not HEAD.search(command) and not SHOWS.search(command):
                 unknown = VARIABLE.search(command) or re.search(r"\$\S+", command)
-                return f"{unknown[0]} isn't set in these files" if unknown else "schedulers other than WF2Q+ are left out"
+                return f"{unknown[0]} isn't set in these files" if unknown else SCHEDULER
         return None
 
     def read_line(self, place: str, line: str) -> None:
         """Reads the commands of a line. A line without commands for pipes and queues gets a single note."""
         commands = [line] if ASSIGNMENT.fullmatch(line.strip()) else BETWEEN_COMMANDS.split(line)
-        if (reason := self.unsure(commands)) is not None:
+        reason = self.reason_to_omit(commands)
+        if reason is not None:
             self.left_out += 1
             self.say(place, f"left out: {line.strip()} ({reason})")
             return
-        if not any(ASSIGNMENT.fullmatch(command.strip()) or self.asked(command) for command in commands):
+        if not any(ASSIGNMENT.fullmatch(command.strip()) or self.request_in(command) for command in commands):
             self.say(place, f"left out: {line.strip()} (it configures no pipe or queue)")
             return
         for command in commands:
-            self.take(place, command)
+            self.convert(place, command)
 
-    def asked(self, command: str) -> Optional[str]:
-        """Returns a command's part for pipes and queues, or None."""
+    def request_in(self, command: str) -> Optional[str]:
+        """Returns the part of a command that configures, deletes or flushes pipes or queues; None without such a part."""
         text = self.expanded(command)
         match = HEAD.search(text)
-        if match is None or re.search(r"\s(?:add|show|list)\s", text[: match.start(1)]):
+        if match is None or SHOWS.search(text[: match.start(1)]):
             return None
         return REDIRECTION.sub("", match[1])
 
     def read_command(self, place: str, command: str) -> None:
-        if (match := ASSIGNMENT.fullmatch(command.strip())) is not None:
-            self.variables[match[1]] = self.expanded(match[2].strip("\"'"))
+        """Sets a shell variable, or adds the configuration lines for a command on pipes and queues. LeftOut: the command contains
+        an unknown variable, or configures a scheduler."""
+        assignment = ASSIGNMENT.fullmatch(command.strip())
+        if assignment is not None:
+            self.variables[assignment[1]] = self.expanded(assignment[2].strip("\"'"))
             return
-        if (line := self.asked(command)) is None:
+        line = self.request_in(command)
+        if line is None:
             if re.search(r"(?:^|\s)sched\s+\S+\s+config\b", command):
-                raise LeftOut("schedulers other than WF2Q+ are left out")
+                raise LeftOut(SCHEDULER)
             return
         words = line.split()
         if words[1] == "flush":
-            self.settle()
-            self.lines.clear()
-            self.emptied = True
-            self.say(place, "all pipes and queues are deleted here, so the lines before have no effect")
+            self.flush(place)
             return
-        if (unknown := VARIABLE.search(" ".join(words))) is not None:
+        unknown = VARIABLE.search(" ".join(words))
+        if unknown is not None:
             raise LeftOut(f"{unknown[0]} isn't set in these files")
         for line_words in list(self.converted(place, words)):
             self.candidates.append(Candidate(len(self.notes), place, command.strip(), " ".join(line_words)))
 
+    def flush(self, place: str) -> None:
+        """Deletes all lines so far."""
+        self.settle()
+        self.lines.clear()
+        self.emptied = True
+        self.say(place, "all pipes and queues are deleted here, so the lines before have no effect")
+
     def expanded(self, text: str) -> str:
-        """Returns the text with the shell variables that the files set."""
+        """Returns the text, in which values replace the shell variables that the files set."""
 
         def value(match: re.Match[str]) -> str:
-            result = self.variables.get(match[1] or match[3], match[0] if match[2] is None else match[2])
+            default = match[0] if match[2] is None else match[2]
+            result = self.variables.get(match[1] or match[3], default)
             self.budget.spend(len(result))
             return result
 
@@ -150,44 +166,54 @@ class Conversion:
         yield words[:3] + list(Options(self, place, kind, words[3:]).words())
 
     def settle(self) -> None:
-        """Keeps the lines that dummynet accepts, as judged in one session."""
-        waiting, self.candidates = self.candidates, []
+        """Checks all candidates in a single session with dummynet; keeps the accepted lines, and notes the omission of other
+        lines."""
+        candidates = self.candidates
+        if not candidates:
+            return
+        self.candidates = []
         items = []
-        refuse_long((one.place for one in waiting), (one.line for one in waiting))
-        for verdict in judged_lines([one.line.encode() for one in waiting]) if waiting else ():
-            one = waiting[verdict.line - 1]
+        refuse_long((candidate.place for candidate in candidates), (candidate.line for candidate in candidates))
+        for verdict in judged_lines([candidate.line.encode() for candidate in candidates]):
+            candidate = candidates[verdict.line - 1]
             if verdict.name == "ok":
-                self.lines.append(one.line)
+                self.lines.append(candidate.line)
                 continue
-            place, _, fault = verdict.text.partition(": ") if verdict.name == "bad" else ("", "", verdict.name.replace("-", " "))
-            reason = f"{place} of '{one.line}': {fault}" if place else fault
-            items.append((one.note, f"{one.place}: left out: {one.command} ({reason})"))
+            reason = reason_of(verdict, candidate)
+            items.append((candidate.note, f"{candidate.place}: left out: {candidate.command} ({reason})"))
         self.left_out += len(items)
         self.notes = list(merge(self.notes, items))
 
 
+def reason_of(verdict: Verdict, candidate: Candidate) -> str:
+    """Returns why dummynet refused a line: the wrong word in a bad line, or the verdict on a correct line."""
+    if verdict.name != "bad":
+        return verdict.name.replace("-", " ")
+    place, _, fault = verdict.text.partition(": ")
+    return f"{place} of '{candidate.line}': {fault}" if place else fault
+
+
 @dataclass
 class Options:
-    """The options of a line, in dummynet's spelling."""
+    """Converts the options of a configuring line into dummynet's spelling."""
 
     conversion: Conversion
     place: str
     kind: str
-    given: list[str]
+    option_words: list[str]
 
     def words(self) -> Iterator[str]:
-        rest = iter(self.given)
-        mask: Optional[str] = None
-        for word in rest:
+        """Yields the options and their values in dummynet's spelling, without options that do nothing here."""
+        words = iter(self.option_words)
+        for word in words:
             if word in WITHOUT_EFFECT:
                 self.conversion.say(self.place, f"{word} is left away: {WITHOUT_EFFECT[word]}")
                 continue
             yield self.name(word)
             if word in ("bw", "queue", "plr", "bandwidth", "delay"):
-                yield self.value(word, next(rest, ""))
-            mask = word if word in WHOLE_MASKS else None
-            if mask is not None:
-                yield self.mask(mask, next(rest, ""))
+                yield self.value(word, next(words, ""))
+            elif word in WHOLE_MASKS:
+                yield self.mask(word, next(words, ""))
 
     def name(self, word: str) -> str:
         """Returns dummynet's name for an ipfw option."""
@@ -197,6 +223,7 @@ class Options:
         return {"bandwidth": "bw", "flowset": "pipe"}.get(word, word)
 
     def value(self, option: str, text: str) -> str:
+        """Returns an option's value in dummynet's spelling."""
         if option == "delay":
             return text.removesuffix("msec")
         return {"bw": ipfw_bandwidth, "bandwidth": ipfw_bandwidth, "plr": loss_rate, "queue": self.limit}[option](text)
@@ -208,12 +235,14 @@ class Options:
             return text
         if match[2] is not None:
             return f"{match[1]}Kbytes"
-        whole, rest = divmod(int(match[1]), BYTES_PER_KBYTE)
+        kbytes, rest = divmod(int(match[1]), BYTES_PER_KBYTE)
         if rest:
-            self.conversion.say(self.place, f"queue {text} is rounded up to {whole + 1}Kbytes")
-        return f"{whole + bool(rest)}Kbytes"
+            kbytes += 1
+            self.conversion.say(self.place, f"queue {text} is rounded up to {kbytes}Kbytes")
+        return f"{kbytes}Kbytes"
 
     def mask(self, mask_field: str, text: str) -> str:
+        """Returns a flow mask's value in dummynet's spelling. LeftOut: the mask's prefix is shorter than the field."""
         slash, whole = WHOLE_MASKS[mask_field]
         if text.startswith("/") and text != slash:
             raise LeftOut(f"{mask_field} {text}: write the bits as a number")
@@ -241,7 +270,7 @@ def loss_rate(text: str) -> str:
 
 
 def merge(notes: list[str], items: list[tuple[int, str]]) -> Iterator[str]:
-    """Yields the notes; each item precedes the note on its place."""
+    """Yields the notes and the items. The number in an item tells how many notes precede the item."""
     at = 0
     for place, note in items:
         yield from notes[at:place]

@@ -1,1 +1,1 @@
-"""The paths of packets between a net's links, over the hosts that forwarded them."""
+"""The paths of packets through a net, from link to link, over the hosts that forwarded the packets."""

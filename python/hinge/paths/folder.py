@@ -1,4 +1,4 @@
-"""A net's transcript, as a folder from `hinge net --transcripts` or a single file, with the system's drops from the summary."""
+"""Finds a net's transcript, in a folder that `hinge net --transcripts` wrote or as a single file, and reads the summary's drops."""
 
 from __future__ import annotations
 
@@ -15,30 +15,38 @@ NO_SUMMARY = "no summary of hinge net"
 
 
 class Session(NamedTuple):
-    files: list[str]  # of the transcript
+    """The names of the files that a net's run wrote."""
+
+    files: list[str]  # the histories of the transcript, in order
     summary: Optional[str]
 
 
 def session_of(path: str, summary: Optional[str] = None) -> Session:
-    """Returns the session in a folder, or the session that contains a file. Fault: there is no transcript."""
+    """Returns the session in a folder, or the session of a history. `summary` names the summary if it isn't in the folder. Fault:
+    the folder contains no transcript."""
     if not os.path.isdir(path):
         return Session(files_of(path), summary)
-    history, beside = os.path.join(path, HISTORY), os.path.join(path, SUMMARY)
+    history = os.path.join(path, HISTORY)
+    usual_summary = os.path.join(path, SUMMARY)
     if not is_beside(history):
         raise Fault(f"{path}: there is no {HISTORY} in it, as hinge net --transcripts makes it", ROWS)
-    return Session(files_of(history), summary or (beside if is_beside(beside) else None))
+    if not summary and is_beside(usual_summary):
+        summary = usual_summary
+    return Session(files_of(history), summary or None)
 
 
 def told_drops(path: Optional[str], topology: Topology) -> dict[int, int]:
-    """Returns the packets from the summary that the system dropped before the links, or for lack of a route, by host."""
+    """Returns for each host's number how many packets the system dropped before the links or for lack of a route, according to the
+    summary at `path`."""
     table: dict[int, int] = {}
     if path is None:
         return table
     with untrusted(path, what=NO_SUMMARY):
         summary = read_object(path, NO_SUMMARY)
         drops = [(way["from"], way["system_drops"]) for way in summary["ways"]]
-        drops += [(host, count) for host, counts in summary.get("unforwarded", {}).items() for count in counts.values()]
+        for host, counts in summary.get("unforwarded", {}).items():
+            drops += [(host, count) for count in counts.values()]
         for name, count in drops:
-            host = topology.number(str(name))
-            table[host] = table.get(host, 0) + int(count)
+            number = topology.number(str(name))
+            table[number] = table.get(number, 0) + int(count)
     return table

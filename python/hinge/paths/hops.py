@@ -1,4 +1,4 @@
-"""A packet's course through a net: a paragraph for each link on its path, and the time at each host between two links."""
+"""A packet's path through a net as text: a paragraph for each link, and the time at each host between two links."""
 
 from __future__ import annotations
 
@@ -16,58 +16,75 @@ from hinge.replays.history import read_history
 from hinge.replays.replay import OUT
 from hinge.replays.units import ms
 
-END = 10**9  # ns before the last call, from which on a packet may be at a host still
+END = 10**9  # ns before the last call: a packet that arrived later may still be at its host
 
 
 class Hops:
-    """Explains packets of a net's folder."""
+    """Describes the paths of single packets through a net, link by link and host by host, from the transcript in a folder that
+    `hinge net --transcripts` wrote."""
 
     def __init__(self, folder: str) -> None:
         self.files, summary = session_of(folder)
         with untrusted(self.files[0]):
             passages, _, _, self.counts = read_transcript(self.files)
-            self.found: Matched = match(passages, END, told_drops(summary, passages.topology))
-        self.folder, self.passages, self.hosts = folder, passages, passages.topology.hosts
+            self.matching: Matched = match(passages, END, told_drops(summary, passages.topology))
+        self.folder = folder
+        self.passages = passages
+        self.hosts = passages.topology.hosts
         self.explainer = lru_cache(maxsize=None)(lambda path: Explainer(read_history(path).explained()))
 
     def paragraph(self, number: int) -> str:
-        """Describes the packet with this number, from its first link on. Fault: there is none."""
+        """Describes a packet's path from its first link on; `number` counts the transcript's packets, from 1, once on each link.
+        Fault: the transcript contains fewer packets."""
         if not 1 <= number <= self.counts[-1]:
             raise Fault(f"{self.folder} has {self.counts[-1]} packets, and no packet {number}", ROWS)
         places = np.flatnonzero(self.passages.number == number)
-        if not len(places):  # nobody sent it
+        if not len(places):  # no host sent this packet
             return self.on_link(number)
         place = int(places[0])
-        while self.found.before[place] != NONE:
-            place = int(self.found.before[place])
-        return "\n".join(self.from_here(place))
+        while self.matching.before[place] != NONE:
+            place = int(self.matching.before[place])
+        return "\n".join(self.lines_from(place))
 
     def on_link(self, number: int) -> str:
+        """Explains what a single link did with a packet."""
         file = int(np.searchsorted(self.counts, number)) - 1
         return self.explainer(self.files[file]).paragraph(number - self.counts[file])
 
-    def from_here(self, place: int) -> Iterator[str]:
-        """Yields a line for each link and for each host between two links, in order. A switch forwards some packets over several links."""
+    def lines_from(self, place: int) -> Iterator[str]:
+        """Yields a line for each link and for each host between two links, from the passage at `place` on. A switch forwards some
+        packets over several links."""
         waiting = [place]
         while waiting:
-            at = waiting.pop()
-            start, end = self.hosts[self.passages.start[at]], self.hosts[self.passages.end[at]]
-            is_on_its_way = BETWEEN in end
-            name = f"{start.replace(BETWEEN, ' > ')}, the jitter" if BETWEEN in start else f"{start} > {end.rpartition(BETWEEN)[2]}"
-            yield f"{name}: {self.on_link(int(self.passages.number[at]))}"
-            following = np.flatnonzero(self.found.before == at).tolist()
+            passage = waiting.pop()
+            end = self.hosts[self.passages.end[passage]]
+            yield f"{self.name_of_link(passage)}: {self.on_link(int(self.passages.number[passage]))}"
+            following = np.flatnonzero(self.matching.before == passage).tolist()
             waiting += reversed(following)
-            for after in [] if is_on_its_way else following:
-                held = int(self.passages.came[after] - self.passages.due[at])
-                yield f"{end}: had it for {ms(held)}, and sent it on as row {self.passages.number[after]}."
-            if not following and self.passages.event[at] == OUT:
-                yield f"{end}: {self.end(at)}"
+            if BETWEEN not in end:
+                yield from self.lines_of_host(end, passage, following)
+            if not following and self.passages.event[passage] == OUT:
+                yield f"{end}: {self.end(passage)}"
+
+    def name_of_link(self, passage: int) -> str:
+        """Returns the two hosts of a passage's link, or the words for the link's jitter, which is a second passage."""
+        start = self.hosts[self.passages.start[passage]]
+        end = self.hosts[self.passages.end[passage]]
+        if BETWEEN in start:
+            return f"{start.replace(BETWEEN, ' > ')}, the jitter"
+        return f"{start} > {end.rpartition(BETWEEN)[2]}"
+
+    def lines_of_host(self, host: str, passage: int, following: list[int]) -> Iterator[str]:
+        """Yields a line for each passage by which a host forwarded a packet: how long the host had the packet."""
+        for next_passage in following:
+            length = int(self.passages.came[next_passage] - self.passages.due[passage])
+            yield f"{host}: had it for {ms(length)}, and sent it on as row {self.passages.number[next_passage]}."
 
     def end(self, place: int) -> str:
-        """Describes the fate of a packet that no host forwarded."""
-        kind = next((kind for kind, rows in self.found.faults.items() if place in rows), None)
+        """Describes why a packet's path ends with the passage at `place`."""
+        kind = next((kind for kind, rows in self.matching.faults.items() if place in rows), None)
         if kind is not None:
             return f"the packet's path ends here, unlawfully: {kind}."
-        if self.found.is_there[place]:
+        if self.matching.is_there[place]:
             return "it ends here."
         return "the packet wasn't sent on: the run ended, the system dropped it as it told, or its time to live ended."

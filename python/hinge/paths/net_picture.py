@@ -1,5 +1,5 @@
-"""A net's picture: hosts and links, each way's traffic, packets' times on ways and hop by hop, drops, cuts, and the links'
-lateness."""
+"""A net's picture: hosts and links, the traffic of each way (one direction of a link), packets' times on ways and hop by hop,
+drops, cuts, and the links' lateness."""
 
 from __future__ import annotations
 
@@ -15,63 +15,86 @@ from hinge.pictures.series import FEWEST_STEPS, round_step, rounded_down, rounde
 from hinge.pictures.settings import capacities
 from hinge.replays.replay import EVENT_NAMES, FULL, LOST, OUT
 
-PATH_COLORS = ("#332288", "#117733", "#aa4499", "#661100")  # none of them is a way's
-MOST_WAYS, MOST_PATHS = len(COLORS), len(PATH_COLORS)
-MOST_DOTS = 3_000  # of a way or a path
+PATH_COLORS = ("#332288", "#117733", "#aa4499", "#661100")  # other colors than those of ways
+MOST_WAYS = len(COLORS)
+MOST_PATHS = len(PATH_COLORS)
+MOST_DOTS = 3_000  # for a way or a path
 CUT_WIDTH = 6.0
-PACKETS_A_STEP = 4  # of the busiest way, so that a rate is no comb
+PACKETS_A_STEP = 4  # on the busiest way at least, since single packets would make the rate jump to 0 and back
 NS_PER_MS = 10**6
 
 
 class NetPicture:
-    """Makes the panels of a net. The ways with most packets have a color each; the others aren't drawn."""
+    """Makes a net's panels. The ways with most packets have a color each; the others aren't drawn. `step_ms` is the time step
+    of rates; None chooses a step for the packets."""
 
     def __init__(self, view: Looked, step_ms: Optional[int]) -> None:
-        result, line = view.found, view.timeline
-        self.looked = view
-        self.found = result
-        self.passages = result.passages
-        self.timeline = line
-        busiest = max((way.packets for way in ways(result)), default=1)
-        longer = min(rounded_up(PACKETS_A_STEP * line.span // busiest), rounded_down(line.span // FEWEST_STEPS))
-        self.step = step_ms * NS_PER_MS if step_ms else max(round_step(line.span), longer)
-        self.count = line.span // self.step + 1
+        self.view = view
+        self.matching = view.matching
+        self.passages = view.matching.passages
+        self.timeline = view.timeline
+        busiest_first = sorted(ways(self.matching), key=lambda way: -way.packets)
+        self.left_out = len(busiest_first[MOST_WAYS:])
+        self.ways: list[tuple[WayFigures, str]] = list(zip(busiest_first[:MOST_WAYS], COLORS))
+        self.step = step_ms * NS_PER_MS if step_ms else self.usual_step()
+        self.count = self.timeline.span // self.step + 1
         self.edges = np.arange(self.count + 1) * self.step / SECOND
-        every = sorted(ways(result), key=lambda way: -way.packets)
-        self.left_out = len(every[MOST_WAYS:])
-        self.ways: list[tuple[WayFigures, str]] = list(zip(every[:MOST_WAYS], COLORS))
+
+    def usual_step(self) -> int:
+        """Returns a step in ns that fits the span, and is longer if the busiest way carries few packets."""
+        span = self.timeline.span
+        packets = self.ways[0][0].packets if self.ways else 1
+        longer = min(rounded_up(PACKETS_A_STEP * span // packets), rounded_down(span // FEWEST_STEPS))
+        return max(round_step(span), longer)
 
     def throughput(self) -> Panel:
-        load = [carried_by_way(self.found, way.pipe, self.step, self.count) for way, _ in self.ways]
+        """Returns the panel with each way's traffic, and with capacities that aren't far above the traffic."""
+        load = [carried_by_way(self.matching, way.pipe, self.step, self.count) for way, _ in self.ways]
         most = max((float(rates.max(initial=0)) for rates in load), default=0)
-        rates_of_pipes = capacities(self.looked.obeyed, self.timeline.span)
-        items, above = list[Item](), 0
+        rates_of_pipes = capacities(self.view.obeyed, self.timeline.span)
+        items: list[Item] = []
+        above = 0  # capacities that aren't drawn
         for number, (way, color) in enumerate(self.ways):
             moments, rates = rates_of_pipes.get(f"pipe {way.pipe}", (self.edges[:0], self.edges[:0]))
-            if not len(rates) or np.nanmax(rates) > MOST_ABOVE * most:
-                above += bool(len(rates))
+            if not len(rates):
                 continue
-            items.append(Line(way.name, moments, rates, color, number, width=1, dash=DOTTED, is_behind=True))
-        notes = [f"{self.left_out} other ways, which carried fewer packets, aren't drawn"] if self.left_out else []
-        notes += (["dotted: a way's capacity"] if items else []) + ([f"{above} capacities are above this panel"] if above else [])
+            if np.nanmax(rates) > MOST_ABOVE * most:
+                above += 1
+            else:
+                items.append(Line(way.name, moments, rates, color, number, width=1, dash=DOTTED, is_behind=True))
+        notes = self.notes(bool(items), above)
         items += [
             Line(way.name, self.edges, np.append(rates, rates[-1]), color, number)
             for number, ((way, color), rates) in enumerate(zip(self.ways, load))
         ]
         return Panel(f"Throughput of each way, per {time_of(self.step)}", "s", "Mbit/s", items, notes)
 
+    def notes(self, has_capacities: bool, above: int) -> list[str]:
+        """Returns the notes below the throughput; `above` is the number of capacities above the panel."""
+        notes = []
+        if self.left_out:
+            notes.append(f"{self.left_out} other ways, which carried fewer packets, aren't drawn")
+        if has_capacities:
+            notes.append("dotted: a way's capacity")
+        if above:
+            notes.append(f"{above} capacities are above this panel")
+        return notes
+
     def delays(self) -> Optional[Panel]:
-        passages, items = self.passages, list[Item]()
+        """Returns the panel with a dot for each delivered packet of a way, or for some of them; None without such packets."""
+        passages = self.passages
+        items: list[Item] = []
         for number, (way, color) in enumerate(self.ways):
             out = np.flatnonzero((passages.pipe == way.pipe) & (passages.event == OUT))
             places = out[spread(np.arange(len(out)), MOST_DOTS)]
             if len(places):
-                x, y = passages.came[places] / SECOND, (passages.due - passages.came)[places] / MS
+                x = passages.came[places] / SECOND
+                y = (passages.due - passages.came)[places] / MS
                 items.append(Points(way.name, places, x, y, color, number))
         return Panel("Delay on each way", "came at, s", "ms", items) if items else None
 
     def cuts(self) -> Optional[Panel]:
-        """Returns a panel with a line for each way during its cuts."""
+        """Returns a panel that draws a horizontal line for each way while a cut loses all packets of the way; None without cuts."""
         items: list[Item] = []
         for place, (pipe, times) in enumerate(sorted(self.timeline.cuts.items()), 1):
             topology = self.passages.topology
@@ -84,6 +107,7 @@ class NetPicture:
         return Panel("Ways that lose all packets", "s", "", items, most=len(items) + 1, is_whole=True) if items else None
 
     def drops(self) -> Optional[Panel]:
+        """Returns the panel of lost packets, and of packets that found a full queue; None without drops."""
         items: list[Item] = []
         for event in (LOST, FULL):
             came = self.passages.came[self.passages.event == event]
@@ -94,41 +118,47 @@ class NetPicture:
         return Panel(f"Drops by cause, packets per {time_of(self.step)}", "s", "packets", items, is_whole=True) if items else None
 
     def over_links(self) -> list[Path]:
-        return [path for path in paths(self.found) if len(path.pipes) > 1][:MOST_PATHS]
+        """Returns the busiest paths over several links."""
+        return [path for path in paths(self.matching) if len(path.pipes) > 1][:MOST_PATHS]
 
     def of_paths(self) -> Optional[Panel]:
-        """Returns the panel of whole paths, from the first host to the last, for the busiest paths over several links."""
+        """Returns the panel of packets' whole times, from the first host to the last, for the busiest paths over several links;
+        None without such paths."""
         items: list[Item] = []
         for path, color in zip(self.over_links(), PATH_COLORS):
             places = spread(np.arange(len(path.sent)), MOST_DOTS)
             total = (path.links.sum(axis=1) + path.hosts.sum(axis=1))[places]
-            items.append(Points(" - ".join(hosts_of(self.found, path)), places, path.sent[places] / SECOND, total / MS, color))
+            items.append(Points(" - ".join(hosts_of(self.matching, path)), places, path.sent[places] / SECOND, total / MS, color))
         return Panel("Delay of paths", "sent at, s", "ms", items) if items else None
 
     def hops(self) -> Optional[Panel]:
-        """Returns the panel of the busiest path, with the time that each link and host added."""
+        """Returns the panel of the busiest path over several links, with the time that each link and host added; None without such
+        a path."""
         path = next(iter(self.over_links()), None)
         if path is None:
             return None
-        hosts = hosts_of(self.found, path)
-        of = np.minimum(path.sent // self.step, self.count - 1)
-        counts = np.bincount(of, minlength=self.count)
+        hosts = hosts_of(self.matching, path)
+        step_of_packet = np.minimum(path.sent // self.step, self.count - 1)
+        counts = np.bincount(step_of_packet, minlength=self.count)
         colors = {way.pipe: color for way, color in self.ways}
         items: list[Item] = []
         for place, column in enumerate(path.links.T):
-            hops = [(f"in {hosts[place]}", path.hosts[:, place - 1], PIPES[0][0])] if place else []
+            hops = []
+            if place:
+                hops.append((f"in {hosts[place]}", path.hosts[:, place - 1], PIPES[0][0]))
             color = colors.get(path.pipes[place], RESTS[place % len(RESTS)])
             hops.append((f"from {hosts[place]} to {hosts[place + 1]}", column, color))
             for name, times, color in hops:
-                mean = np.bincount(of, weights=times, minlength=self.count) / np.maximum(counts, 1) / MS
+                mean = np.bincount(step_of_packet, weights=times, minlength=self.count) / np.maximum(counts, 1) / MS
                 items.append(Bars(name, self.edges[:-1], self.step / SECOND, mean, color))
         return Panel(f"{' - '.join(hosts)}, hop by hop: mean per {time_of(self.step)}", "sent at, s", "ms", items)
 
     def lateness(self) -> Optional[Panel]:
-        """Returns the panel of lateness: all ways' maximum in each second, for late and unread packets, which no link caused."""
-        items = list[Line]()
+        """Returns the panel with the emulation's own lateness in each second: the maximum over all ways, for packets that were sent
+        too late and for packets that waited to be read; None without lateness."""
+        items: list[Line] = []
         for kind, dash in (("late", SOLID), ("unread", DOTTED)):
-            columns = [way[kind] for way in self.looked.lateness.values()]
+            columns = [way[kind] for way in self.view.lateness.values()]
             if columns:
                 moments = columns[0][0]
                 most = np.max([values for _, values in columns], axis=0)
@@ -139,9 +169,10 @@ class NetPicture:
         return late_panel("The links' lateness, the most of each second", items)
 
     def drawing(self, below: list[str]) -> Drawing:
-        net = NetGraph(self.found, self.timeline, self.looked.words).panel()
-        of_paths = self.of_paths(), self.hops()
-        panels = [net, self.throughput(), self.delays(), *of_paths, self.drops(), self.cuts(), self.lateness()]
+        """Returns the whole picture, with the lines `below` under the panels. Cuts shade all panels."""
+        net = NetGraph(self.matching, self.timeline, self.view.words).panel()
+        of_packets = [self.throughput(), self.delays(), self.of_paths(), self.hops(), self.drops()]
+        panels = [net, *of_packets, self.cuts(), self.lateness()]
         keys = [
             Key(way.name, color, f"{way.name}: {way.packets:,} packets, {way.lost:,} lost, {way.full:,} met a full queue")
             for way, color in self.ways

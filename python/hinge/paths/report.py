@@ -1,27 +1,27 @@
-"""The report on a net's ways, paths, and faults between the links."""
+"""The report on a net's ways (directions of links), on the packets' paths, and on faults between the links."""
 
 from __future__ import annotations
 
 from dataclasses import dataclass
 from typing import Iterator, Optional
 
-from hinge.lazy import Integers, np
-from hinge.paths.matching import NONE, Matched
+from hinge.lazy import Integers, Reals, np
+from hinge.paths.matching import LOST_IN_HOST, NONE, Matched
+from hinge.paths.passages import Passages
 from hinge.replays.replay import FULL, LOST, OUT
 
 MS = 1e6  # ns
-SHOWN = 10  # faults of a kind
+SHOWN = 10  # packets that the report lists for a kind of fault
 
 
 @dataclass(frozen=True)
 class Path:
-    """The packets that went over the same ways: `sent` has when each began, and `links` and `hosts` how long each was
-    in each link and in each host between two, in ns: a row for each packet."""
+    """The packets that passed the same ways in the same order. Arrays have a row for each packet; times are in ns."""
 
-    pipes: tuple[int, ...]
-    sent: Integers
-    links: Integers
-    hosts: Integers
+    pipes: tuple[int, ...]  # of the ways
+    sent: Integers  # the moments at which packets entered the first link
+    links: Integers  # the time in each link, a column for each
+    hosts: Integers  # the time in each host between two links, a column for each
 
     @property
     def most_in_hosts(self) -> int:
@@ -30,7 +30,7 @@ class Path:
 
 @dataclass(frozen=True)
 class WayFigures:
-    """The traffic of a link's way in packets; times are in ns, or None if no packet arrived."""
+    """A way's traffic in packets. Times are in ns; `mean` and `p99` of the delay are None if no packet was delivered."""
 
     pipe: int
     ends: tuple[str, str]
@@ -38,7 +38,7 @@ class WayFigures:
     lost: int
     full: int
     sent_bytes: int
-    span: int  # from the first that was delivered to the last
+    span: int  # from the first delivery to the last
     mean: Optional[int]
     p99: Optional[int]
 
@@ -52,8 +52,8 @@ class WayFigures:
 
 
 def chains(matching: Matched) -> Iterator[Integers]:
-    """Yields the passages of arrived packets, with a row for each packet and a column for each passage; an array's rows have equal
-    length."""
+    """Yields the passages (packets on one link) of packets that arrived at their destinations, an array for each number of links: a
+    row for each packet, a column for each passage."""
     last = np.flatnonzero(matching.is_there)
     chain = last[:, None]
     while len(chain):
@@ -63,8 +63,9 @@ def chains(matching: Matched) -> Iterator[Integers]:
 
 
 def paths(matching: Matched) -> list[Path]:
-    """Returns the paths of packets that arrived, beginning with the busiest."""
-    passages, items = matching.passages, []
+    """Returns the paths of the packets that arrived, beginning with the path of most packets."""
+    passages = matching.passages
+    items: list[Path] = []
     for chain in chains(matching):
         ways, number = np.unique(passages.pipe[chain], axis=0, return_inverse=True)
         in_links = passages.due[chain] - passages.came[chain]
@@ -76,32 +77,42 @@ def paths(matching: Matched) -> list[Path]:
 
 
 def hosts_of(matching: Matched, path: Path) -> list[str]:
+    """Returns the names of a path's hosts, from the sender to the destination."""
     topology = matching.passages.topology
-    return [topology.hosts[host] for host in [*(topology.pipes[pipe][0] for pipe in path.pipes), topology.pipes[path.pipes[-1]][1]]]
+    ends = [topology.pipes[pipe] for pipe in path.pipes]
+    return [topology.hosts[start] for start, _ in ends] + [topology.hosts[ends[-1][1]]]
 
 
 def ways(matching: Matched) -> list[WayFigures]:
-    """Returns the ways with packets."""
-    passages, topology, items = matching.passages, matching.passages.topology, []
-    for pipe, (start, end) in sorted(topology.pipes.items()):
-        own = passages.pipe == pipe
-        out = own & (passages.event == OUT)
-        delay = (passages.due - passages.came)[out]
-        mean, p99 = (int(delay.mean()), int(np.quantile(delay, 0.99, method="higher"))) if len(delay) else (None, None)
-        if own.any():
-            packets, losses, full = (int((own & which).sum()) for which in (own, passages.event == LOST, passages.event == FULL))
-            span = int(np.ptp(passages.due[out])) if len(delay) else 0
-            ends = (topology.hosts[start], topology.hosts[end])
-            items.append(WayFigures(pipe, ends, packets, losses, full, int(passages.length[out].sum()), span, mean, p99))
-    return items
+    """Returns the figures of each way that packets entered, in the order of the pipes' numbers."""
+    used = set(np.unique(matching.passages.pipe).tolist())
+    return [figures_of(matching, pipe) for pipe in sorted(matching.passages.topology.pipes) if pipe in used]
+
+
+def figures_of(matching: Matched, pipe: int) -> WayFigures:
+    passages, topology = matching.passages, matching.passages.topology
+    is_own = passages.pipe == pipe
+    out = is_own & (passages.event == OUT)
+    packets = int(is_own.sum())
+    losses = int((is_own & (passages.event == LOST)).sum())
+    full = int((is_own & (passages.event == FULL)).sum())
+    sent_bytes = int(passages.length[out].sum())
+    start, end = topology.pipes[pipe]
+    ends = (topology.hosts[start], topology.hosts[end])
+    if not out.any():
+        return WayFigures(pipe, ends, packets, losses, full, sent_bytes, 0, None, None)
+    delay = (passages.due - passages.came)[out]
+    span = int(np.ptp(passages.due[out]))
+    p99 = int(np.quantile(delay, 0.99, method="higher"))
+    return WayFigures(pipe, ends, packets, losses, full, sent_bytes, span, int(delay.mean()), p99)
 
 
 def of_ways(matching: Matched) -> Iterator[str]:
-    """Yields a table of the ways with packets."""
+    """Yields the lines of a table with the figures of each way that packets entered."""
     rows: list[tuple[str, ...]] = [("way", "packets", "lost", "full", "Mbit/s", "mean ms", "p99 ms")]
     for way in ways(matching):
-        values = (way.mbit_s, *(None if time is None else time / MS for time in (way.mean, way.p99)))
-        texts = ("-" if value is None else f"{value:.3f}" for value in values)
+        times = [None if time is None else time / MS for time in (way.mean, way.p99)]
+        texts = ["-" if value is None else f"{value:.3f}" for value in (way.mbit_s, *times)]
         rows.append((way.name, f"{way.packets:,}", f"{way.lost:,}", f"{way.full:,}", *texts))
     widths = [max(map(len, column)) for column in zip(*rows)]
     for name, *fields in rows:
@@ -109,39 +120,49 @@ def of_ways(matching: Matched) -> Iterator[str]:
 
 
 def of_paths(matching: Matched, top: int) -> Iterator[str]:
-    """Yields a line for each path over several links."""
-    text = [path for path in paths(matching) if len(path.pipes) > 1]
-    for path in text[:top]:
+    """Yields a line for each path over several links: packets, and the mean time in each link and host. The line ends with the
+    longest time in a host. After the `top` busiest paths, a line counts the others."""
+    long_paths = [path for path in paths(matching) if len(path.pipes) > 1]
+    for path in long_paths[:top]:
         in_links = path.links.mean(axis=0)
         in_hosts = path.hosts.mean(axis=0)
-        links, hosts = (" + ".join(f"{time / MS:.3f}" for time in times) for times in (in_links, in_hosts))
-        head = (
-            f"{' - '.join(hosts_of(matching, path))}: {len(path.sent):,} packets, {(in_links.sum() + in_hosts.sum()) / MS:.3f} ms"
-        )
-        yield f"{head}: links {links}, hosts {hosts}, at most {path.most_in_hosts / MS:.3f}"
-    if len(text) > top:
-        yield f"{len(text) - top} other paths"
+        total = (in_links.sum() + in_hosts.sum()) / MS
+        head = f"{' - '.join(hosts_of(matching, path))}: {len(path.sent):,} packets, {total:.3f} ms"
+        yield f"{head}: links {sum_of(in_links)}, hosts {sum_of(in_hosts)}, at most {path.most_in_hosts / MS:.3f}"
+    if len(long_paths) > top:
+        yield f"{len(long_paths) - top} other paths"
+
+
+def sum_of(times: Reals) -> str:
+    """Converts times from ns to a sum in ms, such as `10.020 + 5.000`."""
+    return " + ".join(f"{time / MS:.3f}" for time in times)
 
 
 def of_faults(matching: Matched, files: list[str]) -> Iterator[str]:
-    """Yields each kind of fault with its count and first packets."""
-    passages, topology = matching.passages, matching.passages.topology
+    """Yields a line for each kind of fault with the count, and then lines for the first packets. `files` are the transcript's."""
     for kind, rows in matching.faults.items():
         if not len(rows):
             continue
         yield f"{kind}: {len(rows):,}"
         for row in rows[:SHOWN].tolist():
-            is_lost = kind == "lost in a host"
-            host = topology.hosts[passages.end[row] if is_lost else passages.start[row]]
-            moment = passages.due[row] if is_lost else passages.came[row]
-            content = int(passages.content[row]) % 2**64  # which is read as signed
-            packet = f"a packet of {passages.length[row]} bytes at {moment / MS:.6f} ms, content {content:016x}"
-            head = f"  {files[passages.file[row]]} line {passages.line[row]}"
-            yield f"{head}: {host} {'got' if is_lost else 'sent'} {packet}"
+            yield line_of_fault(matching.passages, row, kind, files)
+
+
+def line_of_fault(passages: Passages, row: int, kind: str, files: list[str]) -> str:
+    """Returns a line about a faulty passage: a host received a packet that was lost there, and sent any other packet."""
+    if kind == LOST_IN_HOST:
+        act = f"{passages.topology.hosts[passages.end[row]]} got"
+        moment = passages.due[row]
+    else:
+        act = f"{passages.topology.hosts[passages.start[row]]} sent"
+        moment = passages.came[row]
+    content = int(passages.content[row]) % 2**64  # the column is signed
+    packet = f"a packet of {passages.length[row]} bytes at {moment / MS:.6f} ms, content {content:016x}"
+    return f"  {files[passages.file[row]]} line {passages.line[row]}: {act} {packet}"
 
 
 def summary(matching: Matched) -> str:
-    """Returns a line with the counts of all packets; those of the last four kinds only where there are some."""
+    """Returns a line with the counts of packets: on links, handed on by hosts, arrived, and of four rarer kinds if they occur."""
     handed_on = int((matching.before != NONE).sum())
     arrived = int(matching.is_there.sum()) - matching.expired
     counts = {

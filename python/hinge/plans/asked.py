@@ -1,6 +1,6 @@
-"""The meanings of options for `hinge run` and `hinge udp`, which remarks in the transcript repeat as typed, with their files'
-lines. A run is a net of a client and a server. This module is a second reading of docs/LINKS.md, and meaning.py a second reading of
-docs/NET.md."""
+"""What the options of `hinge run` and `hinge udp` mean for the links. Remarks in the transcript repeat the options as typed, and
+the lines of the options' files. A run counts as a net with a client and a server. This module is a second reading of docs/LINKS.md,
+and meaning.py a second reading of docs/NET.md."""
 
 from __future__ import annotations
 
@@ -18,22 +18,29 @@ SIDES = {"client > server": "up", "server > client": "down"}
 
 
 class Asked(NamedTuple):
+    """An option's value, or a line of the file that an option names."""
+
     option: str
-    line: int  # of its file, or 0
+    line: int  # the line's number in the file; 0 for a value
     text: str
 
     @property
     def where(self) -> str:
-        return f"{self.option}{f' line {self.line}:' if self.line else ''} `{self.text}`"
+        """Returns the option and the text for messages."""
+        if self.line:
+            return f"{self.option} line {self.line}: `{self.text}`"
+        return f"{self.option} `{self.text}`"
 
 
 def asked_of(remark: str) -> Asked:
-    """Returns the words in a remark after `#,asked,`."""
+    """Reads the part of a remark after `#,asked,`, and returns the option."""
     option, line, text = remark.split(",", 2)
     return Asked(option, int(line), text)
 
 
 class OfRun(Meaning):
+    """The meaning of a run's command line."""
+
     said = "the command line"
 
     def __init__(self, asked: list[Asked]) -> None:
@@ -43,55 +50,70 @@ class OfRun(Meaning):
         self.links = [RUN_HOSTS]
 
     def of(self, *options: str) -> Iterator[Asked]:
-        return (one for option in options for one in self.asked if one.option == option)
+        """Yields the values and file lines of these options."""
+        for option in options:
+            yield from (asked for asked in self.asked if asked.option == option)
 
     def read(self) -> Meaning:
+        """Reads all options; returns the meaning. Unread: this module can't read an option's line."""
         self.begin()
-        self.undrawn |= {1, 2} if any(self.of("--map")) else set()
-        for one in self.of("--loss"):
-            self.model(one.text, 0, 0)
-        self.chosen = {1: {}, 2: {}} if any(self.of("--faults")) else {}
-        self.decided |= {*self.chosen}
-        for one in self.of("--faults"):
-            self.fault(one)
-        for pipe in [pipe for pipe, chosen in self.chosen.items() if not chosen and pipe in self.models]:
-            del self.chosen[pipe]
-        for one in self.of("--timeline"):
-            time, *words = one.text.split()
-            self.link_change(one.where, ns_of(time), 0, 0, words, 0)
+        if any(self.of("--map")):
+            self.undrawn |= {1, 2}
+        for loss in self.of("--loss"):
+            self.model(loss.text, 0, 0)
+        self.read_faults([*self.of("--faults")])
+        for change in self.of("--timeline"):
+            time, *words = change.text.split()
+            self.link_change(change.where, ns_of(time), 0, 0, words, 0)
         self.spell()
         for pipe, option in enumerate(("--up-trace", "--down-trace"), 1):
             self.trace(pipe, option)
         self.spell()
         return self
 
+    def read_faults(self, faults: list[Asked]) -> None:
+        """Reads the lines of --faults, which decide about all losses of a way unless a model does and no packet is chosen."""
+        if faults:
+            self.chosen = {1: {}, 2: {}}
+            self.decided |= {1, 2}
+        for fault in faults:
+            self.fault(fault)
+        for pipe, chosen in list(self.chosen.items()):
+            if not chosen and pipe in self.models:
+                del self.chosen[pipe]
+
     def own(self, line: str, link: int, is_back: int) -> str:
-        """A run numbers its lines separately."""
+        """Returns a configuration line with its numbers, since a run has a single link."""
         return line.removeprefix("ipfw ")
 
     def begin(self) -> None:
-        """The words for a direction precede all lines, or follow the lines that configure their pipe."""
-        lines, named = [*self.of("--config", "--line")], set[str]()
-        named |= {" ".join(self.own(one.text, 0, 0).split()[:2]) for one in lines}
-        both = [preset(one.text) for one in self.of("--preset")]
-        words = [[*self.of(option)] for option in ("--up", "--down")]
-        behind = list[tuple[str, str]]()
-        for pipe, (own, side) in enumerate(zip(words, ("up", "down")), 1):
-            is_line = f"pipe {pipe}" in named
-            text = own[0].text if own else getattr(both[0], side) if both and not is_line else ""
+        """Adds the lines at the run's beginning. The line for a direction's words precedes the configuration lines, or follows if
+        they configure the same pipe."""
+        config_lines = [*self.of("--config", "--line")]
+        configured = {" ".join(self.own(config.text, 0, 0).split()[:2]) for config in config_lines}
+        presets = [preset(asked.text) for asked in self.of("--preset")]
+        later_lines: list[tuple[str, str]] = []
+        for pipe, side in enumerate(("up", "down"), 1):
+            is_configured = f"pipe {pipe}" in configured
+            text, where = "", f"pipe {pipe}"
+            if any(self.of(f"--{side}")):
+                words = next(self.of(f"--{side}"))
+                text, where = words.text, words.where
+            elif presets and not is_configured:
+                text = getattr(presets[0], side)
             self.words[pipe] = text.split()
             line = self.line_of(pipe, text.split())
-            where = own[0].where if own else f"pipe {pipe}"
-            if is_line and line != f"pipe {pipe} config":
-                behind.append((where, line))
-            elif not is_line:
+            if not is_configured:
                 self.add(where, 0, line)
-        for one in lines:
-            self.add(one.where, 0, self.own(one.text, 0, 0))
-        for where, line in behind:
+            elif line != f"pipe {pipe} config":
+                later_lines.append((where, line))
+        for config in config_lines:
+            self.add(config.where, 0, self.own(config.text, 0, 0))
+        for where, line in later_lines:
             self.add(where, 0, line)
 
     def fault(self, one: Asked) -> None:
+        """Reads a line of --faults: a chosen packet, or a cut or hold of a way. Unread: the line is another fault."""
         chosen = CHOSEN.fullmatch(one.text)
         act = LINK_ACT.fullmatch(one.text)
         if chosen:
@@ -104,12 +126,17 @@ class OfRun(Meaning):
             raise Unread(f"{one.where}: no fault of a run")
 
     def trace(self, pipe: int, option: str) -> None:
-        """Rates change the bandwidth of the pipe's first line; mahimahi's moments pace the pipe."""
-        rows = [row for one in self.of(option) for row in [one.text.split(",")] if re.fullmatch(r"[\d.eE+-]+", row[0].strip())]
-        if not rows or len(rows[0]) == 1:
-            self.traced |= {pipe} if rows else set()
+        """Reads a trace. A trace with rates changes the bandwidth in the pipe's first line; a trace of mahimahi only contains
+        moments, and releases the pipe's packets."""
+        all_rows = [line.text.split(",") for line in self.of(option)]
+        rows = [row for row in all_rows if re.fullmatch(r"[\d.eE+-]+", row[0].strip())]
+        if not rows:
             return
-        first = [one for one in self.events if (one.target, one.kind, one.moment) == (("pipe", pipe), "line", 0)][-1].line
+        if len(rows[0]) == 1:
+            self.traced.add(pipe)
+            return
+        first_key = (("pipe", pipe), "line", 0)
+        first = [event for event in self.events if (event.target, event.kind, event.moment) == first_key][-1].line
         bare = re.sub(r" bw \S+", "", first)
         rates = [(round(float(at) * SECOND), round(float(rate))) for at, rate in rows]
         for (at, rate), end in zip(rates, [*(at for at, _ in rates[1:]), FOR_EVER]):

@@ -1,4 +1,4 @@
-"""The settings that a file's lines make for a pipe or queue from moment to moment."""
+"""The settings of a pipe or queue from moment to moment, according to a file's lines."""
 
 from __future__ import annotations
 
@@ -11,14 +11,14 @@ from typing import Optional
 from hinge.plans.meaning import FOR_EVER, LineEvent
 from hinge.plans.spelling import LineOptions, options_of
 
-LEAST_LOSS = str(Fraction("0.000000000465661288"))  # that of packets which a cut of a port chooses
+LEAST_LOSS = str(Fraction("0.000000000465661288"))  # the rate of a pipe whose cut only loses a port's packets
 Port = tuple[str, ...]  # the protocol and the port of packets, or nothing for all packets
 ANY: Port = ("",)  # any port that a line cuts
 
 
 def turns_of(spans: list[tuple[int, int]]) -> list[int]:
-    """Returns the starts and ends of time spans, alternating, after joining overlapping spans."""
-    turns = list[int]()
+    """Joins overlapping time spans; returns the starts and ends of the resulting spans, by turns."""
+    turns: list[int] = []
     for begin, end in sorted(spans):
         if turns and begin <= turns[-1]:
             turns[-1] = max(turns[-1], end)
@@ -28,14 +28,14 @@ def turns_of(spans: list[tuple[int, int]]) -> list[int]:
 
 
 class Course:
-    """The events of one pipe or queue."""
+    """The events of one pipe or queue: lines, cuts, heals and holds."""
 
     def __init__(self) -> None:
         self.lines: list[LineEvent] = []
         self.cuts: list[LineEvent] = []
         self.heals = defaultdict[Port, list[LineEvent]](list)
         self.holds: list[LineEvent] = []
-        self.longest: list[LineEvent] = []  # of the holds up to each
+        self.longest: list[LineEvent] = []  # for each hold, the hold that ends last among this one and the earlier ones
         self.turns: set[int] = set()  # the moments of cuts and heals
         self.ports: set[Port] = set()
         self.cut: dict[
@@ -43,6 +43,7 @@ class Course:
         ] = {}  # the moments at which a port is cut and isn't by turns: certainly, or perhaps
 
     def add(self, event: LineEvent) -> None:
+        """Adds an event in its order."""
         if event.kind in ("cut", "heal"):
             self.turns |= {event.moment, event.end}
             self.ports |= {event.port} - {()}
@@ -51,38 +52,43 @@ class Course:
         self.longest.clear()
 
     def hold(self, until: int) -> Optional[LineEvent]:
-        """Returns the last-ending hold among holds before a moment."""
+        """Returns the hold that ends last among the holds that begin before a moment; None without such holds."""
         if not self.longest:
-            self.longest += accumulate(self.holds, lambda one, other: other if other.end > one.end else one)
+            self.longest += accumulate(self.holds, lambda longest, hold: hold if hold.end > longest.end else longest)
         before = bisect_left(self.holds, (until,))
         return self.longest[before - 1] if before else None
 
     def latest(self, moment: int) -> Optional[LineEvent]:
-        """The last line up to a moment."""
-        before = self.lines[: bisect_left(self.lines, (moment + 1,))][-1:]
-        return before[0] if before else None
+        """Returns the last line up to a moment; None if there is no line yet."""
+        before = bisect_left(self.lines, (moment + 1,))
+        return self.lines[before - 1] if before else None
 
     def options(self, moment: int, is_past: bool) -> list[LineOptions]:
-        """Returns the options from the lines after all changes at a moment, or also before; several in case of doubt."""
-        result = list[LineOptions]()
+        """Returns the options that the file's lines may give the pipe or queue at a moment. With `is_past`, all changes at the
+        moment have been made; otherwise the options before these changes are possible too. The list has several items if the exact
+        moment of a line is in doubt; None stands for no line so far."""
+        result: list[LineOptions] = []
         at = bisect_left(self.lines, (moment + 1,))
         while at:
             at -= 1
             result.append(options_of(self.lines[at].line)[1])
-            if self.lines[at].moment + self.lines[at].doubt <= moment - (not is_past):
+            latest = self.lines[at].moment + self.lines[at].doubt
+            if latest < moment or is_past and latest == moment:
                 return result
         return [*result, None]
 
     def begins_hold(self, moment: int) -> bool:
+        """Returns whether a hold begins at exactly this moment."""
         place = bisect_left(self.holds, (moment,))
         return place < len(self.holds) and self.holds[place].moment == moment
 
     def ports_of(self, packet: list[str]) -> list[Port]:
-        """Returns a packet's ports that lines cut or heal."""
+        """Returns those of a packet's two ports, with the protocol, that lines cut or heal."""
         return sorted({(packet[2], port) for port in packet[3:5]} & self.ports)
 
     def spans(self) -> dict[tuple[Port, bool], list[tuple[int, int]]]:
-        """Returns when each cut is certainly or possibly in force: up to the end, or up to the next heal."""
+        """Returns the time spans of the cuts of each port. A key ends with True for the spans in which a cut is certainly in force,
+        and with False for the longer spans in which a cut is perhaps in force. A cut lasts up to its end or the next heal."""
         result = defaultdict[tuple[Port, bool], list[tuple[int, int]]](list)
         heals: dict[tuple[Port, int], list[int]] = {
             (port, doubt): [
@@ -102,19 +108,21 @@ class Course:
         return result
 
     def is_cut(self, moment: int, port: Port = ()) -> set[bool]:
-        """Returns whether a way is cut after all changes at a moment, for all or a port's packets; both values in case of doubt."""
+        """Returns whether a cut loses all packets, or a port's packets, after all changes at a moment. The set contains both values
+        if that is in doubt."""
         if not self.cut and self.cuts:
             self.cut = {key: turns_of(spans) for key, spans in self.spans().items()}
-        known, perhaps = (bisect_right(self.cut.get((port, is_known), []), moment) % 2 == 1 for is_known in (True, False))
-        return {True} if known else {False, perhaps}
+        is_known = bisect_right(self.cut.get((port, True), []), moment) % 2 == 1
+        is_possible = bisect_right(self.cut.get((port, False), []), moment) % 2 == 1
+        return {True} if is_known else {False, is_possible}
 
     def cut_at(self, moment: int, port: Port = ()) -> LineEvent:
-        """A cut that goes on at a moment."""
-        return next(one for one in self.cuts if one.port == port and one.moment <= moment < one.end)
+        """Returns a cut that is in force at a moment."""
+        return next(cut for cut in self.cuts if cut.port == port and cut.moment <= moment < cut.end)
 
     def fits(self, options: LineOptions, moment: int, is_past: bool, is_paced: bool) -> bool:
-        """Returns whether the target may have a line at a moment: after all changes at that moment, or also before. If `is_paced`,
-        more than lines decide the bandwidth."""
+        """Returns whether the pipe or queue may have these options at a moment: after all changes at the moment if `is_past`,
+        otherwise also before these. `is_paced` ignores the bandwidth, since a trace or a hold changes it, too."""
         is_turn = not is_past and moment in self.turns
         cuts = {False, True} if is_turn else self.is_cut(moment)
         of_ports = {False, bool(self.ports)} if is_turn else self.is_cut(moment, ANY)
@@ -124,10 +132,10 @@ class Course:
         if False in cuts and False in of_ports:
             losses.append({})
 
-        def bare(one: LineOptions) -> LineOptions:
-            return one and {key: text for key, text in one.items() if not is_paced or key != "bw"}
+        def bare(line: LineOptions) -> LineOptions:
+            return line and {key: text for key, text in line.items() if not is_paced or key != "bw"}
 
-        def beside(one: LineOptions, loss: dict[str, str]) -> LineOptions:
-            return one and bare({**one, **loss} if loss.get("plr") == "1" else {**loss, **one})
+        def with_loss(line: LineOptions, loss: dict[str, str]) -> LineOptions:
+            return line and bare({**line, **loss} if loss.get("plr") == "1" else {**loss, **line})
 
-        return any(beside(one, loss) == bare(options) for one in self.options(moment, is_past) for loss in losses)
+        return any(with_loss(line, loss) == bare(options) for line in self.options(moment, is_past) for loss in losses)

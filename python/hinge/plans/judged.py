@@ -5,60 +5,55 @@ values, and nothing else happened."""
 from __future__ import annotations
 
 import re
-from collections import defaultdict
 from heapq import heapify, heappop, heappush
 from typing import Iterable, Iterator, Optional
 
-from hinge.plans.courses import Course
-from hinge.plans.draws import LOSS, Draws
 from hinge.plans.meaning import LineEvent, Meaning
-from hinge.plans.of_hosts import MS, OfHosts, seconds
+from hinge.plans.of_draws import OfDraws
+from hinge.plans.of_hosts import MS, seconds
 from hinge.plans.spelling import LineOptions, Target, options_of
 
-NOBODY = "255"  # the protocol of the packet of an outage
-ENTRIES_TOLD = 3  # the first format of a net's transcript with remarks of `hinge exec`
-DOUBT = 100 * MS  # in which what the control socket is asked for is done
-WORDS_OF_CUT = re.compile("(?= ((?:cut|heal)[^`]*)`)")  # in the place of a line
-WORD = 6  # the place of a packet's random word
+NOBODY = "255"  # the protocol of the packet with which an outage begins
+ENTRIES_TOLD = 3  # the first format in which a net's transcript contains remarks of `hinge exec`
+DOUBT = 100 * MS  # within which the links carry out a request of the control socket
+WORDS_OF_CUT = re.compile("(?= ((?:cut|heal)[^`]*)`)")  # within an event's `where`
 
 
-class Judge(OfHosts):
+class Judge(OfDraws):
+    """Reads a transcript line by line, and collects its faults."""
+
     def __init__(self, meaning: Meaning, limit: int) -> None:
         """Acts on hosts may be late by the limit, in ns."""
         super().__init__(meaning, limit)
-        self.in_force: dict[Target, LineOptions] = {}
-        self.configured_at: dict[Target, int] = {}
-        self.paced: set[Target] = {("pipe", number) for number in meaning.traced}
-        self.unjudged: list[tuple[Target, LineOptions, str]] = []  # lines before the next moment
-        self.of = defaultdict[Target, Course](Course)
-        self.due: list[tuple[int, int, LineEvent]] = []  # what is to be looked at, and when
+        self.configured_at: dict[Target, int] = {}  # the moment of each target's latest line
+        self.paced: set[Target] = {("pipe", number) for number in meaning.traced}  # pipes with a bandwidth from a trace
+        self.unjudged: list[tuple[Target, LineOptions, str]] = []  # lines at the present moment that don't fit yet
+        self.due: list[tuple[int, int, LineEvent]] = []  # events by the moments at which their effect must be in force
         self.lines_of_cuts: set[tuple[int, str]] = set()  # the words of lines that cut or heal, and their moments
         self.note(meaning.events)
-        self.asked: set[str] = set()  # the last change by the control socket
-        self.before: Optional[tuple[Target, LineOptions, str]] = None  # what a line changes that the links haven't answered yet
-        self.held: dict[str, tuple[LineEvent, int]] = {}  # by packets, with the delay of the link
+        self.asked: set[str] = set()  # the control socket's latest change
+        self.before: Optional[
+            tuple[Target, LineOptions, str]
+        ] = None  # a target's options before a line without a reply, and the line
+        self.held: dict[str, tuple[LineEvent, int]] = {}  # the hold of each held packet, and the link's delay
         self.packets = 0
-        self.submitted: Optional[tuple[Target, int, list[str]]] = None
-        self.seed: Optional[int] = None
-        self.draws: dict[int, Draws] = {}  # by pipes
-        self.passing: dict[str, tuple[Draws, int]] = {}  # packets with a second pass, and their numbers
-        self.left: list[tuple[Draws, int]] = []  # those whose second pass is to come now
-        self.leaving: dict[str, Draws] = {}  # packets on their last pass, of which a bit may be flipped
-        self.flips: dict[str, tuple[Draws, int]] = {}  # those that left so, and their numbers among those of the way that left
-        self.middles: dict[str, int] = {}  # where the jitter of a way begins, and the way's pipe
-        self.way_of: dict[int, int] = {}  # the way's pipe of each pipe of a second pass
+        self.submitted: Optional[tuple[Target, int, list[str]]] = None  # a packet without a reply: target, moment and fields
 
     def note(self, events: list[LineEvent]) -> None:
+        """Notes events, from the file or the control socket."""
         self.note_acts(events)
-        self.lines_of_cuts |= {(one.moment, words) for one in events for words in WORDS_OF_CUT.findall(one.where)}
-        for one in (one for one in events if not one.host):
-            self.of[one.target].add(one)
-            for moment in (one.moment, one.end) if one.kind != "hold" else ():
-                heappush(self.due, (moment + one.doubt, one.place, one))
+        self.lines_of_cuts |= {(event.moment, words) for event in events for words in WORDS_OF_CUT.findall(event.where)}
+        for event in events:
+            if event.host:
+                continue
+            self.of[event.target].add(event)
+            if event.kind != "hold":
+                heappush(self.due, (event.moment + event.doubt, event.place, event))
+                heappush(self.due, (event.end + event.doubt, event.place, event))
 
     def fits(self, target: Target, options: LineOptions, moment: int, is_past: bool, until: int) -> bool:
-        """Returns whether a line is requested at a moment. During a hold, which may begin up to another hold, a pipe has the rates
-        of the waiting packets, and then the last packet's rate up to its next line."""
+        """Returns whether the file or the control socket requests a line's options at a moment. From a hold on, any bandwidth fits
+        up to the pipe's next line, since the pipe has the rates of the waiting packets; the hold may begin up to `until`."""
         of = self.of[target]
         since = self.configured_at.get(target, 0)
         hold = of.hold(until + 1)
@@ -68,6 +63,7 @@ class Judge(OfHosts):
     # What the transcript says.
 
     def read(self, lines: Iterable[str]) -> None:
+        """Reads a file of the transcript: calls (c), replies (r), deliveries (d) and remarks (#)."""
         for line in lines:
             kind, _, rest = line.rstrip("\n").partition(",")
             if kind == "c":
@@ -80,6 +76,7 @@ class Judge(OfHosts):
                 self.remark(rest)
 
     def call(self, text: str) -> None:
+        """Reads a call of the links: a configuration line, the collection of packets that are due, or a packet's submit."""
         word, _, rest = text.partition(",")
         if word == "configure":
             self.configured(rest)
@@ -92,7 +89,8 @@ class Judge(OfHosts):
             self.submitted = (target, int(number)), self.now, packet
 
     def pass_to(self, moment: int) -> None:
-        """Checks that all earlier due changes are in force."""
+        """Advances the transcript's clock to a moment. Reports lines that no event requests, and events that had no effect by
+        then."""
         for target, options, text in self.unjudged:
             if not self.fits(target, options, self.now, False, moment):
                 self.fault(self.now, f"`{text}` isn't what {self.meaning.said} has for {self.name(target)} then")
@@ -102,20 +100,22 @@ class Judge(OfHosts):
             at, _, event = heappop(self.due)
             options = self.in_force.get(event.target)
             if not self.fits(event.target, options, at, True, moment):
-                told = self.options_text(options)
-                self.fault(at, f"{event.where} wasn't done: {self.name(event.target)} is `{told}` at {seconds(at)}")
+                text = self.options_text(options)
+                self.fault(at, f"{event.where} wasn't done: {self.name(event.target)} is `{text}` at {seconds(at)}")
 
     def configured(self, text: str) -> None:
+        """Puts a configuration line into force."""
         target, options = options_of(text)
         self.before = target, self.in_force.get(target), text
         self.in_force[target], self.configured_at[target] = options, self.now
         if target not in self.of and target[0] == "pipe" and target[1] > 2 * len(self.meaning.links):
-            return  # of a second pass
+            return  # a pipe for a second pass, which no line of the file configures
         if not self.fits(target, options, self.now, False, self.now):
             self.unjudged.append((target, options, text))
 
     def refused(self, target: Target, before: LineOptions, line: str, reply: str) -> None:
-        """Handles a refused line: the line changes nothing, and its request on the control socket is void."""
+        """Restores a target's options after the links refused a line, and removes the control socket's request for the line.
+        Reports a refusal without such a request."""
         self.in_force[target] = before
         requests = [one for one in self.of[target].lines if one.doubt and options_of(one.line) == options_of(line)]
         for one in requests[-1:]:
@@ -127,6 +127,7 @@ class Judge(OfHosts):
             self.fault(self.now, f"the links refused `{line}`: {reply}")
 
     def reply(self, text: str) -> None:
+        """Reads the links' reply to the latest line or submit."""
         if self.before and text not in ("configured", "deleted"):
             self.refused(*self.before, text)
         self.before = None
@@ -158,56 +159,6 @@ class Judge(OfHosts):
         self.lossless(target, pipe, moment)
         self.from_stopped(moment, packet)
 
-    def drawn(self, pipe: int, moment: int, packet: list[str], number: str) -> None:
-        """A packet's random word comes from the seed, a model or the chosen packets."""
-        if self.seed is None or pipe in self.meaning.undrawn:
-            return
-        if pipe not in self.draws:
-            of_pipe = self.meaning.words.get(pipe, []), self.meaning.models.get(pipe, ""), self.meaning.chosen.get(pipe)
-            self.draws[pipe] = Draws(self.seed, pipe - 1, *of_pipe)
-        draws = self.draws[pipe]
-        place, word = next(draws.packets)
-        wanted = self.words_in_cuts(self.of["pipe", pipe], moment, packet, word)
-        if int(packet[WORD]) not in wanted:
-            name = self.name(("pipe", pipe))
-            self.fault(
-                moment,
-                f"packet {place} of {name} has the random word {packet[WORD]}: {draws.model or 'the seed'} draws {min(wanted)}",
-            )
-        if number and draws.has_passes():
-            self.passing[number] = draws, place
-        elif number and draws.corruption:
-            self.leaving[number] = draws
-
-    @staticmethod
-    def words_in_cuts(course: Course, moment: int, packet: list[str], word: int) -> set[int]:
-        """Returns the random words that a packet may have: the drawn word, and the word of a loss in a cut of its port, unless all
-        packets are cut."""
-        states = [[course.is_cut(at, port) for at in (moment - 1, moment)] for port in course.ports_of(packet)]
-        is_all = set[bool]().union(*(course.is_cut(at) for at in (moment - 1, moment)))
-        may_be_lost = False in is_all and any(True in state for of_port in states for state in of_port)
-        must_be_lost = True not in is_all and any(of_port == [{True}, {True}] for of_port in states)
-        return {LOSS} if must_be_lost else {LOSS, word} if may_be_lost else {word}
-
-    def passed_again(self, moment: int, pipe: Target, number: str) -> None:
-        """The second pass of the packet that left first on its way has the drawn or chosen delay."""
-        delay = self.delay(pipe) // MS
-        way = self.way_of.get(pipe[1])
-        if way in self.meaning.undrawn or way is None and self.meaning.undrawn:
-            return
-        first = next((place for place, (draws, _) in enumerate(self.left) if way in (None, draws.way + 1)), None)
-        if first is None:
-            if self.seed is not None:
-                self.fault(moment, f"a packet is late by {delay} ms, for which no line asks")
-            return
-        draws, place = self.left.pop(first)
-        if number and draws.corruption:
-            self.leaving[number] = draws
-        wanted = draws.delay(place)
-        if delay != wanted:
-            name = self.name(("pipe", draws.way + 1))
-            self.fault(moment, f"packet {place} of {name} is late by {delay} ms: {wanted} ms were drawn or chosen")
-
     def lossless(self, target: Target, pipe: Target, moment: int) -> None:
         """Reports a queue without a loss whose link has one."""
         lines = self.of[pipe].latest(moment)
@@ -217,39 +168,31 @@ class Judge(OfHosts):
         if "plr" in (options_of(lines.line)[1] or {}):
             self.fault(moment, f"{lines.where}: its loss isn't that of packets which a rule sends to queue {target[1]}")
 
-    def delay(self, pipe: Target) -> int:
-        return int((self.in_force.get(pipe) or {}).get("delay", 0)) * MS
-
     def delivered(self, fields: list[str]) -> None:
-        self.left += [self.passing.pop(fields[0])] if fields[0] in self.passing else []
-        if fields[0] in self.leaving and (place := (draws := self.leaving.pop(fields[0])).flipped()):
-            self.flips[fields[0]] = draws, place
+        """Reads a packet's delivery, and reports a packet that left during a hold."""
+        if fields[0] in self.passing:
+            self.left.append(self.passing.pop(fields[0]))
+        if fields[0] in self.leaving:
+            draws = self.leaving.pop(fields[0])
+            place = draws.flipped()
+            if place:
+                self.flips[fields[0]] = draws, place
         hold, delay = self.held.pop(fields[0], (None, 0))
         if hold and int(fields[3]) < hold.end + min(delay, self.delay(hold.target)):
             self.fault(int(fields[3]), f"{hold.where} didn't hold: a packet left before its end")
 
-    def flipped(self, number: str, bit: int, bits: int) -> None:
-        """A packet left with a bit flipped, of which so many were there."""
-        draws, place = self.flips.pop(number, (None, 0))
-        if draws and bit != draws.bit(place, bits):
-            self.fault(self.now, f"bit {bit} of packet {number} was flipped: the seed draws {draws.bit(place, bits)} of {bits}")
-        elif not draws and not any("corrupt" in self.meaning.words.get(pipe, ()) for pipe in self.meaning.undrawn):
-            self.fault(self.now, f"a bit of packet {number} was flipped, for which no line asks")
-
-    def no_flips(self) -> None:
-        """All flipped bits have been told of the packets that have left."""
-        while self.flips:
-            self.fault(self.now, f"packet {self.flips.popitem()[0]} left whole: the seed flips one of its bits")
-
     def remark(self, text: str) -> None:
+        """Reads a remark, and reports a change that neither the file nor the control socket requests."""
         kind, _, rest = text.partition(",")
         if kind == "host":
             name, *addresses = rest.split(",")
             self.own.update(dict.fromkeys(addresses, name))
         elif kind == "pipe":
             number, start, end = rest.split(",")[:3]
-            self.middles.update({end: int(number)} if "~" in end else {})
-            self.way_of.update({int(number): self.middles[start]} if start in self.middles else {})
+            if "~" in end:
+                self.middles[end] = int(number)
+            if start in self.middles:
+                self.way_of[int(number)] = self.middles[start]
         elif kind == "change":
             self.add(rest)
         elif kind == "act" and rest.split()[0] not in ("cut", "heal"):
@@ -272,28 +215,24 @@ class Judge(OfHosts):
         self.asked = {rest} if kind == "change" else self.asked
         self.tells_changes |= kind == "format"
         self.tells_entries |= kind == "format" and int(rest) >= ENTRIES_TOLD
-        self.ends |= kind == "ending"  # when stopped hosts go on
+        self.ends |= kind == "ending"  # stopped hosts then continue
 
     def add(self, words: str) -> None:
-        """Adds a request of the control socket. It means the same as in a file."""
+        """Adds the events of a request from the control socket, whose words mean the same as in a file."""
         self.remarks.append(f"at {seconds(self.now)} by the control socket: {words}")
         first = len(self.meaning.events)
         self.meaning.at(f"`{words}` by the control socket", f"start+{self.now}ns", words, DOUBT)
         self.meaning.spell()
         self.note(self.meaning.events[first:])
 
-    def name(self, target: Target) -> str:
-        link, way = divmod(target[1] - 1, 2)
-        if target[0] == "queue" or link >= len(self.meaning.links):
-            return f"{target[0]} {target[1]}"
-        return " > ".join(self.meaning.links[link][:: 1 - 2 * way])
-
     def lines_told(self) -> Iterator[str]:
         """Yields the report: faults, requests of the control socket, and counts."""
-        yield from (f"{self.meaning.path} {one.text}" for one in self.faults)
+        yield from (f"{self.meaning.path} {fault.text}" for fault in self.faults)
         yield from self.remarks
-        count = len({one.where for one in self.meaning.events if one.moment <= self.now and "control socket" not in one.where})
-        yield f"{'not ' if self.faults else ''}as {self.meaning.path} says: {count} lines, {len(self.acts)} acts, {self.packets} packets"
+        past = [event.where for event in self.meaning.events if event.moment <= self.now]
+        count = len({where for where in past if "control socket" not in where})
+        verdict = "not as" if self.faults else "as"
+        yield f"{verdict} {self.meaning.path} says: {count} lines, {len(self.acts)} acts, {self.packets} packets"
 
     @staticmethod
     def options_text(options: LineOptions) -> str:

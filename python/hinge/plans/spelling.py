@@ -1,4 +1,4 @@
-"""Configuration lines as dummynet spells them, and what they say."""
+"""Configuration lines in dummynet's spelling, and the options that they set."""
 
 from __future__ import annotations
 
@@ -11,20 +11,20 @@ from hinge.program import asked_of_dummynet
 
 OPTION_WORDS = ("bw", "delay", "queue", "plr", "weight", "buckets", "pipe", "mask")
 Target = tuple[str, int]  # pipe or queue, and its number
-LineOptions = Optional[dict[str, str]]  # of a line; none where it deletes
+LineOptions = Optional[dict[str, str]]  # the options that a line sets; None for a line that deletes
 
 
 class Unread(ValueError):
-    """Raised for lines that this module can't read, so that the net isn't judged."""
+    """Raised for lines that the check can't read, so that it doesn't judge the net."""
 
 
 def dummynet_lines(lines: list[str]) -> list[str]:
-    """Returns configuration lines in dummynet's spelling. Unread: dummynet refuses one."""
+    """Returns configuration lines in dummynet's spelling. Unread: dummynet refuses a line."""
     answer = asked_of_dummynet("live", data="".join(f" {line}\n" for line in lines).encode())
-    found = re.findall(r"^c,0,configure,(.*)$", answer.text, re.M)
-    if len(found) != len(lines):
+    spelled_lines = re.findall(r"^c,0,configure,(.*)$", answer.text, re.M)
+    if len(spelled_lines) != len(lines):
         raise Unread("dummynet doesn't take a line of the file")
-    return found
+    return spelled_lines
 
 
 @lru_cache(1 << 16)
@@ -36,7 +36,8 @@ def options_of(line: str) -> tuple[Target, LineOptions]:
     options: dict[str, str] = {}
     for word in words[3:]:
         if word in OPTION_WORDS:
-            options[last:=word] = ""
+            last = word
+            options[last] = ""
         else:
             options[last] = f"{options[last]} {word}".strip()
     if "plr" in options:

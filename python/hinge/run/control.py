@@ -8,8 +8,9 @@ import signal
 import time
 from typing import Any, Callable, NamedTuple, Optional, Union
 
+from hinge.border.clients import PATIENCE, Answer, Client
 from hinge.border.messages import ObeyedLine, Order, Reply
-from hinge.border.serving import PATIENCE, Answer, Client, Server
+from hinge.border.serving import Server
 from hinge.events.forms import LINK_WORDS
 from hinge.run.changes import Change, Happening
 from hinge.run.host_lines import LONGEST_LINE, HostLines

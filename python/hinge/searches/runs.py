@@ -2,9 +2,9 @@
 
 from __future__ import annotations
 
-from concurrent.futures import ThreadPoolExecutor, as_completed
+from concurrent.futures import FIRST_COMPLETED, Future, ThreadPoolExecutor, wait
 from pathlib import Path
-from typing import Any, Callable, NamedTuple, Optional, Sequence
+from typing import Any, Callable, Iterator, NamedTuple, Optional, Sequence
 
 from hinge.border.files import read_object
 from hinge.border.scratch import scratch, undisturbed
@@ -23,6 +23,7 @@ NO_RUN = "no run of a search"
 OUTPUT = 10_000  # the number of characters that are kept of a run's output, from the end
 REFUSED = 6
 WELL = "status 0"  # the name of a run that ended well
+LOOK_EACH = 0.5  # s: the longest wait for a run, as Python handles a signal that comes just before a wait after the wait
 LONGEST = "86400s"  # the simulated time after which a run is ended without --limit
 
 
@@ -162,6 +163,13 @@ class Runner:
             return self.run(["net", str(file)], case.seed, case.pauses(), watch, look)
 
 
+def completed(tasks: "set[Future[None]]") -> "Iterator[Future[None]]":
+    """Yields the tasks as they end."""
+    while tasks:
+        results, tasks = wait(tasks, LOOK_EACH, FIRST_COMPLETED)
+        yield from results
+
+
 class Runs:
     """Describes a search's folder. The file run-SEED.json contains a seed's run."""
 
@@ -210,7 +218,7 @@ class Runs:
         bar = Bar("runs", len(missing))
         with ThreadPoolExecutor(at_once) as pool:
             try:  # the submissions are inside, since the first run may have begun when a signal comes
-                for task in as_completed([pool.submit(self.make, seed) for seed in missing]):
+                for task in completed({pool.submit(self.make, seed) for seed in missing}):
                     task.result()
                     bar.step()
             except BaseException:

@@ -7,7 +7,7 @@
         net = aio.network()
         client, server = net.host("10.0.0.1"), net.host("10.0.0.2")
         net.path(client, server, "8Mbit/s 20ms plr 0.05")
-        server.create_task(serve())      # what runs in a task of a host runs on that host
+        server.create_task(serve())      # the task, and its child tasks, run on the host `server`
         return await client.create_task(ask())
 
     print(aio.run(main(), seed=1))

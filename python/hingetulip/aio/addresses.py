@@ -1,4 +1,4 @@
-"""Addresses of hosts and groups, as text. A host's IPv6 addresses are further names for the same host."""
+"""Reads the addresses of hosts and groups, as text. A host's IPv6 addresses are further names for the same host."""
 
 from __future__ import annotations
 
@@ -8,14 +8,15 @@ from typing import Any
 
 ANY, ANY_OF_6 = "0.0.0.0", "::"
 OWN = ("localhost", "127.0.0.1", "::1")
-MAPPED = "::ffff:"  # before an IPv4 address, as a socket of IPv6 has it
+MAPPED = "::ffff:"  # precedes an IPv4 address in an IPv6 socket
 BROADCAST = "255.255.255.255"
-WRITTEN = {"": ANY, "<broadcast>": BROADCAST}  # as sockets of Python have them
+WRITTEN = {"": ANY, "<broadcast>": BROADCAST}  # names in Python's sockets, and their addresses
 LOW = (1 << 32) - 1
-FLAGS = socket.SOCK_NONBLOCK | socket.SOCK_CLOEXEC  # beside the kind of a socket
+FLAGS = socket.SOCK_NONBLOCK | socket.SOCK_CLOEXEC  # flags that a socket's type may contain
 
 
 def is_of_6(address: str) -> bool:
+    """Returns whether an address is an IPv6 address."""
     return ":" in address
 
 
@@ -29,7 +30,7 @@ def is_address(text: str) -> bool:
 
 
 def any_of(version: int) -> str:
-    """Returns the address that stands for all of a host's addresses."""
+    """Returns the address that stands for all of a host's addresses in IP version 4 or 6."""
     return ANY if version == 4 else ANY_OF_6
 
 
@@ -40,7 +41,7 @@ def is_group(address: str) -> bool:
     return address == BROADCAST or address.split(".")[0] in GROUPS
 
 
-GROUPS = frozenset(map(str, range(224, 240)))  # first bytes
+GROUPS = frozenset(map(str, range(224, 240)))  # the first bytes of IPv4 groups
 
 
 def plain(address: Any) -> str:
@@ -50,10 +51,10 @@ def plain(address: Any) -> str:
     if not is_of_6(text):
         return WRITTEN.get(text, text)
     try:
-        known = ipaddress.IPv6Address(text)
+        parsed = ipaddress.IPv6Address(text)
     except ValueError:
         return text
-    return str(known.ipv4_mapped or known)
+    return str(parsed.ipv4_mapped or parsed)
 
 
 def number(address: str) -> int:
@@ -67,7 +68,7 @@ def version_of(family: int) -> int:
 
 
 def port_of(port: Any, is_stream: bool) -> int:
-    """Returns a port's number; like getaddrinfo, it accepts service names. gaierror: no service has this name."""
+    """Returns a port's number, from a number or a service's name. gaierror: no service has this name."""
     text = port.decode() if isinstance(port, (bytes, bytearray)) else str(port or 0)
     if text.isdecimal():
         return int(text)

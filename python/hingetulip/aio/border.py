@@ -1,5 +1,5 @@
-"""C code during a run, controlled by hinge-clock.so: OpenSSL's clock, random numbers from the seed, and the calls that reached the
-system."""
+"""Controls C code during a run, with the library hinge-clock.so: OpenSSL's clock, random numbers from the seed, and a count of the
+calls that reached the system."""
 
 from __future__ import annotations
 
@@ -16,9 +16,9 @@ from hingetulip.aio.clock import Clock
 from hingetulip.aio.switched import switch_copy, switched
 
 PYTHON = Path(__file__).resolve().parents[2]
-PLACES = ("../built", "../release", "hinge")  # of a clone, and of what is installed
-BEHIND = 2**32 - 1  # what the library answers behind the last count
-FUNCTIONS = {
+PLACES = ("../built", "../release", "hinge")  # the library's folders: two in a clone, and one where it is installed
+BEHIND = 2**32 - 1  # the count that the library returns behind the last function
+FUNCTIONS = {  # the library's functions, each with the types of its result and its arguments
     "hinge_border": (None,),
     "hinge_seed": (None, c_uint64),
     "hinge_random": (c_int, c_void_p, c_int),
@@ -27,27 +27,30 @@ FUNCTIONS = {
 }
 
 
-def loaded() -> Optional[Any]:
-    """Returns the library: preloaded, named by HINGE_CLOCK, or built or installed with this package."""
+def load_library() -> Optional[Any]:
+    """Returns the library hinge-clock.so if it is preloaded, or else loads it from the path in HINGE_CLOCK, or from the folders in
+    PLACES without that variable. Returns None if there is no such library."""
     own = os.environ.get("HINGE_CLOCK")
-    for place in (None, *([own] if own else (str(PYTHON / place / "hinge-clock.so") for place in PLACES))):
+    paths = [own] if own else [str(PYTHON / place / "hinge-clock.so") for place in PLACES]
+    for path in (None, *paths):  # None stands for the process with its preloaded libraries
         try:
-            library = ctypes.PyDLL(place)
-            for name, (result, *words) in FUNCTIONS.items():
+            library = ctypes.PyDLL(path)
+            for name, (result, *argument_types) in FUNCTIONS.items():
                 function = getattr(library, name)
-                function.restype, function.argtypes = result, words
+                function.restype = result
+                function.argtypes = argument_types
         except (AttributeError, OSError):
             continue
         return library
     return None
 
 
-LIBRARY = loaded()
-joining: list[Callable[[], object]] = []  # what a thread that joins the run calls, if a run is under way
+LIBRARY = load_library()
+joining: list[Callable[[], object]] = []  # the functions that a thread calls when it joins the run; none without a run
 
 
 def leave() -> None:
-    """Takes the C code of this thread out of the run."""
+    """Makes this thread's C code use the system's clock and random numbers again."""
     if LIBRARY is not None:
         LIBRARY.hinge_run(None, 0, 0)
 
@@ -57,34 +60,41 @@ os.register_at_fork(after_in_child=leave)
 
 def calls() -> Counter[str]:
     """Returns how often libraries called real functions since the last call, such as `libzmq.so.5 connect`."""
-    found, library, function = Counter[str](), c_char_p(), c_char_p()
+    counts = Counter[str]()
+    if LIBRARY is None:
+        return counts
+    library, function = c_char_p(), c_char_p()
     for place in range(BEHIND):
-        count = LIBRARY.hinge_called(place, library, function) if LIBRARY is not None else BEHIND
+        count = LIBRARY.hinge_called(place, library, function)
         if count == BEHIND:
             break
         if count:
-            found[f"{os.path.basename(library.value or b'').decode()} {(function.value or b'').decode()}"] += count
-    return found
+            file = os.path.basename(library.value or b"").decode()
+            counts[f"{file} {(function.value or b'').decode()}"] += count
+    return counts
 
 
-def bound_anew(own: Callable[..., Any]) -> Callable[..., Any]:
-    """Returns a loader of libraries and modules in C that gives each one the run's functions."""
+def loader_in_run(own: Callable[..., Any]) -> Callable[..., Any]:
+    """Returns the run's version of a function that loads a C library or module: the loaded code calls the run's functions."""
 
-    def load(*words: Any, **named: Any) -> Any:
+    def load(*arguments: Any, **keywords: Any) -> Any:
         try:
-            return own(*words, **named)
+            return own(*arguments, **keywords)
         finally:
             if LIBRARY is not None:
                 LIBRARY.hinge_border()
-            switch_copy(getattr(words[0], "__name__", ""))
+            switch_copy(getattr(arguments[0], "__name__", ""))
 
     return load
 
 
 @contextmanager
 def border(clock: Clock, epoch: int, source: Random) -> Iterator[None]:
-    """Gives the C code of this thread, and of those that join the run, the run's clock and random numbers within the context, and
-    counts its calls."""
+    """Makes C code use the run's clock and random numbers in this thread, and in threads that join the run, within the context.
+    Begins to count the real calls of C code anew.
+
+    `epoch` is the clock's beginning in ns since 1970, and `source` draws the seeds of random numbers.
+    """
     import _ctypes
     import _imp
 
@@ -96,7 +106,7 @@ def border(clock: Clock, epoch: int, source: Random) -> Iterator[None]:
         joining.append(lambda: run(clock.place, epoch, source.getrandbits(64)))
         joining[-1]()
     try:
-        with switched(dict.fromkeys(loads, bound_anew)):
+        with switched(dict.fromkeys(loads, loader_in_run)):
             yield
     finally:
         if LIBRARY is not None:

@@ -1,4 +1,4 @@
-"""The contents of a network: datagrams, errors from closed ports, and drops on links."""
+"""The messages in a network: datagrams, errors from closed ports, and records of drops on links."""
 
 from __future__ import annotations
 
@@ -7,12 +7,12 @@ from typing import NamedTuple
 from hingetulip.records import Outcome
 
 Address = tuple[str, int]
-HEADERS = 28  # bytes of IPv4 and UDP before the data, which a link carries too
-HEADERS_OF_6 = 48
+HEADERS = 28  # bytes of the IPv4 and UDP headers, which a link carries before the data
+HEADERS_OF_6 = 48  # bytes of the IPv6 and UDP headers
 UDP, ICMP = 17, 1
-MOST_BYTES = 65535  # of a datagram with its headers
-MOST_REFUSAL, MOST_REFUSAL_OF_6 = 576, 1280  # bytes of an answer of a closed port: it quotes what fits
-NS = 10**9
+MOST_BYTES = 65535  # the longest datagram, with its headers
+MOST_REFUSAL, MOST_REFUSAL_OF_6 = 576, 1280  # the most bytes of a closed port's error, which quotes as much as fits
+NS = 10**9  # in a second
 
 
 class Datagram(NamedTuple):
@@ -24,26 +24,26 @@ class Datagram(NamedTuple):
 
 
 class Refusal(Datagram):
-    """A closed port's ICMP error about a datagram. Its data is a quote from the datagram."""
+    """A closed port's ICMP error about a datagram. The error's data quotes the datagram."""
 
 
 def headers(address: str) -> int:
-    """Returns the length of the headers for this destination."""
+    """Returns the length of the headers of a datagram to this address."""
     return HEADERS_OF_6 if ":" in address else HEADERS
 
 
-def refusal(it: Datagram) -> Refusal:
+def refusal(datagram: Datagram) -> Refusal:
     """Returns the error about a datagram that no socket receives."""
-    before = headers(it.target[0])
-    most = MOST_REFUSAL if before == HEADERS else MOST_REFUSAL_OF_6
-    return Refusal(it.target, it.source, (bytes(before) + it.data)[: most - before])
+    length = headers(datagram.target[0])
+    most = MOST_REFUSAL if length == HEADERS else MOST_REFUSAL_OF_6
+    return Refusal(datagram.target, datagram.source, (bytes(length) + datagram.data)[: most - length])
 
 
 class Dropped(NamedTuple):
-    """A datagram that was lost on a link, or arrived at a full queue."""
+    """The record of a datagram that was lost on a link, or that a full queue dropped."""
 
-    row: int  # of the packet in the history, from 1, as `hinge look` counts them
-    moment: int  # ns
+    row: int  # the packet's row, from 1, which `hinge look` prints
+    moment: int  # ns since the beginning of the simulated time
     source: Address
     target: Address
     data: bytes
@@ -58,5 +58,5 @@ class Dropped(NamedTuple):
 
 
 def place(address: str) -> str:
-    """Returns an address in the form used before a port."""
+    """Returns an address as text before a port: an IPv6 address is in brackets."""
     return f"[{address}]" if ":" in address else address

@@ -1,4 +1,4 @@
-"""`socket.socket` for datagrams during a run: a simulated host's socket with the usual methods."""
+"""The datagram sockets of a run: a simulated host's sockets, with the methods of `socket.socket`."""
 
 from __future__ import annotations
 
@@ -6,13 +6,13 @@ import errno
 import socket
 import struct
 from collections import deque
-from typing import TYPE_CHECKING, Any, Iterable, NoReturn, Optional
+from typing import TYPE_CHECKING, Any, Iterable, Optional
 
 from hingetulip.aio.addresses import ANY, ANY_OF_6, OWN, any_of, is_group, plain, version_of
 from hingetulip.aio.datagram import NS, Datagram
 from hingetulip.aio.endpoint import Endpoint, fault
 from hingetulip.aio.host import Host, current_host, here
-from hingetulip.aio.refusals import NO_COPY
+from hingetulip.aio.hostless_socket import HostlessSocket
 from hingetulip.aio.socket_options import option, set_option
 
 if TYPE_CHECKING:
@@ -20,127 +20,110 @@ if TYPE_CHECKING:
     from hingetulip.aio.transport import Transport
 
 STAMPS = socket.SOL_SOCKET, 35  # SO_TIMESTAMPNS
-Buffer = Any  # what a memoryview can be made of
+Buffer = Any  # an object that a memoryview accepts
 
 
-class DatagramSocket(socket.socket):
-    """A host's datagram socket; the first task that uses the socket decides the host.
+class DatagramSocket(HostlessSocket):
+    """A simulated datagram socket. Its host is that of the first task that uses the socket.
 
-    The socket gets a descriptor on request, for `loop.add_reader` and `select`.
+    The socket only opens a descriptor if code needs one, for `loop.add_reader` or `select`.
     """
 
     net: Network
 
     def __init__(self, family: int = -1, type: int = -1, proto: int = -1, fileno: Optional[int] = None) -> None:
-        # That of the system isn't initialized, so that it has no descriptor.
-        self._io_refs, self._closed = 0, False
+        # `socket.socket` isn't initialized, so that the system opens no descriptor.
+        self._io_refs = 0  # the files made from this socket, which `socket.socket` counts
+        self._closed = False
         self._version = version_of(family)
         self._endpoint: Optional[Endpoint] = None
-        self._asked = (any_of(self._version), 0)  # what it is bound to, once it is on a host
+        self._wanted = (any_of(self._version), 0)  # the address and port to bind to, once the socket is on a host
         self._options: dict[tuple[int, int], Any] = {}
         self._queue: deque[Datagram] = deque()
-        self._came: dict[int, int] = {}  # when a datagram came, of a socket that asks for that
-        self._refused: Optional[OSError] = None
-        self._timeout = 0.0 if type & socket.SOCK_NONBLOCK and type > 0 else socket.getdefaulttimeout()
+        self._arrivals: dict[int, int] = {}  # each queued datagram's arrival in ns, if the socket wants time stamps
+        self._error: Optional[OSError] = None  # an error from a closed port, for the next call
+        is_nonblocking = type > 0 and bool(type & socket.SOCK_NONBLOCK)
+        self._timeout = 0.0 if is_nonblocking else socket.getdefaulttimeout()
         self._descriptor = -1
         if here.get(None) is not None:
             self._place()
 
     @classmethod
     def of(cls, endpoint: Endpoint) -> DatagramSocket:
-        """Returns a transport's socket, for setting options."""
-        made = cls.__new__(cls)
-        cls.__init__(made, socket.AF_INET6 if endpoint.version == 6 else socket.AF_INET, socket.SOCK_DGRAM)
-        made.net, made._endpoint, made._timeout = endpoint.host.net, endpoint, 0.0
-        return made
+        """Returns a socket for a transport's endpoint, which lets users set options."""
+        new = cls.__new__(cls)
+        cls.__init__(new, socket.AF_INET6 if endpoint.version == 6 else socket.AF_INET, socket.SOCK_DGRAM)
+        new.net = endpoint.host.net
+        new._endpoint = endpoint
+        new._timeout = 0.0
+        return new
 
     def _place(self, host: Optional[Host] = None) -> Endpoint:
-        """Returns the socket's endpoint, placing it on this or the current host if necessary. RuntimeError: this task runs on
-        no host."""
+        """Returns the socket's endpoint. The first call creates the endpoint, on `host` or the current host.
+
+        OSError: the socket is closed, or the port is in use. RuntimeError: this task runs on no host.
+        """
         if self._closed:
             raise fault(errno.EBADF)
         if self._endpoint is None:
-            made = Endpoint(host or current_host(), self._version)
-            made.receiver = self
+            endpoint = Endpoint(host or current_host(), self._version)
+            endpoint.receiver = self
             for (level, name), value in self._options.items():
-                set_option(made, level, name, value)
-            if self._asked != (any_of(self._version), 0):
-                made.bind(*self._asked)
-            self._endpoint = made
+                set_option(endpoint, level, name, value)
+            if self._wanted != (any_of(self._version), 0):
+                endpoint.bind(*self._wanted)
+            self._endpoint = endpoint
         return self._endpoint
 
     def endpoint(self) -> Endpoint:
-        """Returns the endpoint, bound to a port, for a transport."""
-        place = self._place()
-        if not place.local[1]:
-            place.bind(*place.local)
-        return place
+        """Returns the endpoint for a transport, and binds the endpoint to a port if necessary."""
+        endpoint = self._place()
+        if not endpoint.local[1]:
+            endpoint.bind(*endpoint.local)
+        return endpoint
 
-    def given(self, transport: Transport) -> None:
-        """Hands the socket over to a transport, including waiting datagrams."""
+    def hand_over(self, transport: Transport) -> None:
+        """Hands the queued datagrams over to a transport."""
         while self._queue:
             transport.take(self._queue.popleft())
 
-    # What the endpoint calls.
+    # The endpoint calls these methods.
 
-    def take(self, it: Datagram) -> None:
+    def take(self, datagram: Datagram) -> None:
         """Receives a datagram."""
-        self._queue.append(it)
+        self._queue.append(datagram)
         if self._options.get(STAMPS):
-            self._came[id(it)] = self.net.loop.clock.now
+            self._arrivals[id(datagram)] = self.net.loop.clock.now
         self.net.loop.descriptors.readable(self)
 
     def refuse(self, fault: OSError) -> None:
-        """Records an error from a closed port; the next call raises it."""
-        self._refused = fault
+        """Records an error from a closed port, which the next call raises."""
+        self._error = fault
         self.net.loop.descriptors.readable(self)
 
     def abort(self) -> None:
-        """Closes because the host crashes."""
+        """Closes the socket, since the host crashes."""
         self.close()
 
     def is_readable(self) -> bool:
-        return bool(self._queue) or self._refused is not None
+        """Returns whether a receiving call ends at once, with a datagram or an error."""
+        return bool(self._queue) or self._error is not None
 
-    # The calls of a socket.
-
-    @property
-    def family(self) -> socket.AddressFamily:
-        return socket.AF_INET6 if self._version == 6 else socket.AF_INET
-
-    @property
-    def type(self) -> socket.SocketKind:
-        return socket.SOCK_DGRAM
-
-    @property
-    def proto(self) -> int:
-        return socket.IPPROTO_UDP
-
-    @property
-    def timeout(self) -> Optional[float]:
-        return self._timeout
+    # Users call these methods, as they do with other sockets.
 
     def __repr__(self) -> str:
-        where = "" if self._endpoint is None else f" on {self._endpoint.host.name}, laddr={self.getsockname()}"
-        return f"<hingetulip.aio.DatagramSocket{' [closed]' if self._closed else where}>"
+        state = ""
+        if self._closed:
+            state = " [closed]"
+        elif self._endpoint is not None:
+            state = f" on {self._endpoint.host.name}, laddr={self.getsockname()}"
+        return f"<hingetulip.aio.DatagramSocket{state}>"
 
     def fileno(self) -> int:
         """Returns a descriptor for select and similar functions; -1 after closing."""
         if self._descriptor < 0 and not self._closed:
             self._descriptor = self.net.loop.descriptors.new(self)
         return self._descriptor
-
-    def setblocking(self, flag: bool) -> None:
-        self._timeout = None if flag else 0.0
-
-    def getblocking(self) -> bool:
-        return self._timeout != 0
-
-    def settimeout(self, value: Optional[float]) -> None:
-        self._timeout = value
-
-    def gettimeout(self) -> Optional[float]:
-        return self._timeout
 
     def setsockopt(self, level: int, optname: int, value: Any, optlen: Optional[int] = None) -> None:
         """Sets an option. Only groups, shared ports, broadcasts and IPV6_V6ONLY have an effect; other options are just stored."""
@@ -150,33 +133,38 @@ class DatagramSocket(socket.socket):
 
     def getsockopt(self, level: int, optname: int, buflen: int = 0) -> Any:
         if (level, optname) == (socket.SOL_SOCKET, socket.SO_ERROR):
-            refused, self._refused = self._refused, None
-            return 0 if refused is None else refused.errno
+            error = self._take_error()
+            return 0 if error is None else error.errno
         return option(self._options, level, optname, buflen)
 
     def bind(self, address: Any) -> None:
-        """Binds to a port on the host. Outside a host's tasks, the binding waits for the first host that uses the socket.
+        """Binds to a port on the host. Outside a host's tasks, the socket is bound once a host uses it.
 
-        OSError: the port is in use, or the task runs on another host.
+        OSError: the port is in use, the address isn't the host's, or the socket is bound already.
         """
-        name, port, host = plain(address[0]), address[1], here.get(None)
+        name = plain(address[0])
+        port = address[1]
+        host = here.get(None)
         if name in (ANY, ANY_OF_6, *OWN):
             name = any_of(self._version)
         elif not is_group(name):
             owner = self.net.hosts.get(name)
             if owner is None or host not in (None, owner):
                 raise fault(errno.EADDRNOTAVAIL, f"{host.name if host else 'no host'} hasn't the address {name}")
-            host, name = owner, name if name in owner.addresses else owner.address_for(self._version)
+            host = owner
+            if name not in owner.addresses:
+                name = owner.address_for(self._version)
         if self._endpoint is not None and self._endpoint.local[1]:
             raise fault(errno.EINVAL)
-        self._asked = name, port
+        self._wanted = name, port
         if host is not None and not self._place(host).local[1]:
             self._place().bind(name, port)
 
     def connect(self, address: Any) -> None:
-        place = self._place()
-        place.connect(place.target(address))
-        self._queue = deque(it for it in self._queue if it.source == place.remote)
+        """Connects the socket to an address, and discards queued datagrams from other addresses."""
+        endpoint = self._place()
+        endpoint.connect(endpoint.target(address))
+        self._queue = deque(datagram for datagram in self._queue if datagram.source == endpoint.remote)
 
     def connect_ex(self, address: Any) -> int:
         try:
@@ -187,31 +175,38 @@ class DatagramSocket(socket.socket):
 
     def getsockname(self) -> Any:
         if self._endpoint is None:
-            return (*self._asked, 0, 0) if self._version == 6 else self._asked
+            return (*self._wanted, 0, 0) if self._version == 6 else self._wanted
         return self._endpoint.name()
 
     def getpeername(self) -> Any:
-        place = self._place()
-        if place.remote is None:
+        endpoint = self._place()
+        if endpoint.remote is None:
             raise fault(errno.ENOTCONN)
-        return place.written(place.remote)
+        return endpoint.own_form(endpoint.remote)
 
-    def _raise_refused(self) -> None:
-        refused, self._refused = self._refused, None
-        if refused is not None:
-            raise refused
+    def _take_error(self) -> Optional[OSError]:
+        """Returns the error from a closed port, and clears it; None if there is none."""
+        error = self._error
+        self._error = None
+        return error
+
+    def _raise_error(self) -> None:
+        """Raises the error from a closed port, if there is one."""
+        error = self._take_error()
+        if error is not None:
+            raise error
 
     def send(self, data: Any, flags: int = 0) -> int:
-        place = self._place()
-        self._raise_refused()
-        if place.remote is None:
+        endpoint = self._place()
+        self._raise_error()
+        if endpoint.remote is None:
             raise fault(errno.EDESTADDRREQ)
-        return self._sent(place, bytes(data), place.remote)
+        return self._send(endpoint, bytes(data), endpoint.remote)
 
     def sendto(self, data: Any, *rest: Any) -> int:
-        place = self._place()
-        self._raise_refused()
-        return self._sent(place, bytes(data), place.target(rest[-1]))
+        endpoint = self._place()
+        self._raise_error()
+        return self._send(endpoint, bytes(data), endpoint.target(rest[-1]))
 
     def sendall(self, data: Any, flags: int = 0) -> None:
         self.send(data)
@@ -220,30 +215,33 @@ class DatagramSocket(socket.socket):
         data = b"".join(map(bytes, buffers))
         return self.send(data) if address is None else self.sendto(data, address)
 
-    def _sent(self, place: Endpoint, data: bytes, target: Any) -> int:
-        error = place.send(data, target)
+    def _send(self, endpoint: Endpoint, data: bytes, target: Any) -> int:
+        error = endpoint.send(data, target)
         if error is not None:
             raise error
         return len(data)
 
     def _await(self, flags: int) -> Endpoint:
-        """Returns the endpoint once a datagram has arrived. A thread of the run yields meanwhile."""
-        place = self._place()
-        self._raise_refused()
+        """Returns the endpoint once a datagram has arrived. A thread of the run yields meanwhile.
+
+        OSError: a closed port sent an error, or no datagram has arrived in time. RealTimeError: the loop's thread would wait.
+        """
+        endpoint = self._place()
+        self._raise_error()
         if not self._queue:
             if self._timeout == 0 or flags & socket.MSG_DONTWAIT:
                 raise fault(errno.EAGAIN)
             if not self.net.loop.baton.wait(self.is_readable, self._timeout):
                 raise socket.timeout("timed out")
-            self._raise_refused()
-        return place
+            self._raise_error()
+        return endpoint
 
     def recvfrom(self, bufsize: int, flags: int = 0) -> tuple[bytes, Any]:
-        """Returns the next datagram. BlockingIOError: none has arrived. RealTimeError: no datagram has arrived, and the loop's
-        thread would wait."""
-        place = self._await(flags)
-        it = self._queue[0] if flags & socket.MSG_PEEK else self._queue.popleft()
-        return it.data[:bufsize], place.written(it.source)
+        """Returns the next datagram's data and source. BlockingIOError: none has arrived, and the socket doesn't block.
+        RealTimeError: none has arrived, and the loop's thread would wait."""
+        endpoint = self._await(flags)
+        datagram = self._queue[0] if flags & socket.MSG_PEEK else self._queue.popleft()
+        return datagram.data[:bufsize], endpoint.own_form(datagram.source)
 
     def recv(self, bufsize: int, flags: int = 0) -> bytes:
         return self.recvfrom(bufsize, flags)[0]
@@ -258,32 +256,24 @@ class DatagramSocket(socket.socket):
         return self.recvfrom_into(buffer, nbytes, flags)[0]
 
     def recvmsg(self, bufsize: int, ancbufsize: int = 0, flags: int = 0) -> tuple[bytes, list[Any], int, Any]:
+        """Returns the next datagram's data, its time stamp if the socket wants one, MSG_TRUNC if the data is cut off, and the
+        source."""
         self._await(flags)
-        it = self._queue[0]
+        datagram = self._queue[0]
         data, source = self.recvfrom(bufsize, flags)
-        seconds = divmod(round(self.net.start * NS) + self._came.get(id(it), 0), NS)
-        stamps = [(*STAMPS, struct.pack("@ll", *seconds))] if self._came.pop(id(it), None) is not None else []
-        return data, stamps, socket.MSG_TRUNC if len(it.data) > bufsize else 0, source
+        stamps = []
+        arrival = self._arrivals.pop(id(datagram), None)
+        if arrival is not None:
+            stamps.append((*STAMPS, struct.pack("@ll", *divmod(round(self.net.start * NS) + arrival, NS))))
+        return data, stamps, socket.MSG_TRUNC if len(datagram.data) > bufsize else 0, source
 
     def shutdown(self, how: int) -> None:
         self.getpeername()
 
     def _real_close(self, *_: object) -> None:
-        """`close` calls this when all files made from the socket are closed."""
+        """Closes the socket. `close` calls this method when all files made from the socket are closed."""
         self._closed = True
         if self._endpoint is not None and self._endpoint.receiver is self:
             self._endpoint.close()
         self.net.loop.descriptors.remove(self._descriptor)
         self._descriptor = -1
-
-    def listen(self, *_: object) -> NoReturn:
-        raise fault(errno.EOPNOTSUPP)
-
-    def accept(self) -> NoReturn:
-        raise fault(errno.EOPNOTSUPP)
-
-    def detach(self) -> NoReturn:
-        raise NotImplementedError(NO_COPY)
-
-    def dup(self) -> NoReturn:
-        raise NotImplementedError(NO_COPY)

@@ -1,5 +1,5 @@
-"""The emulator of a network. It is faster than Shaper for a single caller: packets use prepared ways, and results are plain
-numbers."""
+"""Calls the emulator for a network. For a single caller this is faster than Shaper: packets use prepared ways, and results are
+plain numbers."""
 
 from __future__ import annotations
 
@@ -7,7 +7,7 @@ from ctypes import byref, c_char, c_size_t, c_uint64
 from struct import error as StructError
 from typing import TYPE_CHECKING, Optional
 
-from hingetulip.calls import encoded, succeed, unpackable
+from hingetulip.calls import encode_line, succeed, error_of_fields
 from hingetulip.history_file import Recording
 from hingetulip.layout import DELIVERY, FATE, PACKET
 from hingetulip.library import CALLS, ROOM, failure
@@ -16,52 +16,64 @@ from hingetulip.shaper import Shaper
 if TYPE_CHECKING:
     from hingetulip.aio.link import Link
 
-FEW = 64  # deliveries for which there is room at first
+FEW = 64  # the deliveries for which there is room at first
 pack_packet, unpack_fate = PACKET.record.pack_into, FATE.record.unpack
 unpack_delivery, iterate_deliveries = DELIVERY.record.unpack_from, DELIVERY.record.iter_unpack
 submit_packet, collect_packets, next_wake = CALLS.dn_submit, CALLS.dn_collect, CALLS.dn_wake
 
 
 class Way:
-    """The common properties of all packets from a socket to another on a link: pipe or queue, and header fields."""
+    """The common properties of all packets on a link from one socket to another: the pipe or queue, and the header fields."""
 
     __slots__ = ("link", "before", "is_last", "source", "target", "proto", "sport", "dport", "kind", "number", "_others")
 
     def __init__(
         self, link: Link, before: int, is_last: bool, fields: tuple[int, int, int, int, int], kind: int, number: int
     ) -> None:
-        """`before` is the length of the headers. `fields` are addresses, protocol and ports as numbers."""
-        self.link, self.before, self.is_last, self.kind, self.number = link, before, is_last, kind, number
+        """Stores the properties.
+
+        `before` is the length of the headers, and `is_last` says whether the target is at the link's end. `fields` are addresses,
+        protocol and ports as numbers. `kind` is PIPE or QUEUE, and `number` the number of this pipe or queue.
+        """
+        self.link = link
+        self.before = before
+        self.is_last = is_last
+        self.kind = kind
+        self.number = number
         self.source, self.target, self.proto, self.sport, self.dport = fields
         self._others: Optional[dict[tuple[int, int], Way]] = None
 
     def to(self, kind: int, number: int) -> Way:
-        """Returns the same way through another pipe (0) or queue (1) of the link."""
-        self._others = {} if self._others is None else self._others
-        found = self._others.get((kind, number))
-        if found is None:
+        """Returns the way of the same packets through another pipe or queue of the link. `kind` is PIPE or QUEUE."""
+        if self._others is None:
+            self._others = {}
+        other = self._others.get((kind, number))
+        if other is None:
             fields = self.source, self.target, self.proto, self.sport, self.dport
-            found = self._others[kind, number] = Way(self.link, self.before, self.is_last, fields, kind, number)
-        return found
+            other = Way(self.link, self.before, self.is_last, fields, kind, number)
+            self._others[kind, number] = other
+        return other
 
 
 class Emulator:
-    """The emulator of a network. Moments never decrease, so each call happens at its moment.
-
-    There is no lock, since only the loop calls it. With a history, each call adds an entry.
-    """
+    """Calls a network's shaper at moments that never decrease, so that each call happens at its moment. Only the loop makes calls,
+    so they need no lock. With a history, each call adds an entry."""
 
     def __init__(self, shaper: Shaper, history: Optional[Recording]) -> None:
-        self.shaper, self.history = shaper, history
-        self._packet, self._fate = (c_char * PACKET.size)(), (c_char * FATE.size)()
+        self.shaper = shaper
+        self.history = history
+        self._packet = (c_char * PACKET.size)()
+        self._fate = (c_char * FATE.size)()
         self._submitted = shaper._self, byref(self._packet), byref(self._fate)
         if history is not None:
             self._submit_entry = history.entry(*self._submitted[1:])
-        self._moment, self._number = c_uint64(), c_uint64()
+        self._moment = c_uint64()
+        self._number = c_uint64()
         self._woken = shaper._self, byref(self._number)
         self._make_room(FEW)
 
     def _make_room(self, count: int) -> None:
+        """Prepares `collect` for at most `count` deliveries."""
         self._deliveries = bytearray(DELIVERY.size * count)
         place = byref((c_char * len(self._deliveries)).from_buffer(self._deliveries))
         self._collected = self.shaper._self, self._moment, place, c_size_t.from_param(count), byref(self._number)
@@ -81,21 +93,21 @@ class Emulator:
             at = self.shaper.advance(moment)
             if self.history is not None:
                 self.history.add_advance(moment, at)
-        text = encoded(line)
+        text = encode_line(line)
         status = self.shaper._obeyed(text)
         if self.history is not None:
             self.history.add_line(text, status)
         succeed(status)
 
     def submit(self, way: Way, moment: int, length: int, word: int) -> tuple[int, int]:
-        """Submits a packet; returns its outcome as a number, and the packet's number. RangeError: a loss model returned a wrong
-        word."""
+        """Submits a packet with a random word; returns the outcome as a number, and the packet's number. RangeError: the word, from
+        a loss model, isn't in 0 to 2^32 - 1."""
         try:
             pack_packet(
                 self._packet, 0, moment, way.source, way.target, word, way.sport, way.dport, length, way.number, way.kind, way.proto
             )
         except StructError:
-            raise unpackable(word=word) from None
+            raise error_of_fields(word=word) from None
         status = submit_packet(*self._submitted)
         if status:
             raise failure(status)
@@ -122,4 +134,6 @@ class Emulator:
             self.history.add(CALLS.dn_collect_text, self._collect_entry)
         if count == 1:
             return [unpack_delivery(self._deliveries)[1]]
-        return [it[1] for it in iterate_deliveries(memoryview(self._deliveries)[: DELIVERY.size * count])] if count else []
+        if count == 0:
+            return []
+        return [delivery[1] for delivery in iterate_deliveries(memoryview(self._deliveries)[: DELIVERY.size * count])]

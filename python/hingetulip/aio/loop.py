@@ -25,9 +25,9 @@ if TYPE_CHECKING:
     from hingetulip.aio.network import Network
 
 T = TypeVar("T")
-FEW_TASKS = 64
-RESOLUTION = 0.5e-9  # s: a timer is due at its nearest ns
-LEFT_OUT = (
+FEW_TASKS = 64  # the tasks that the loop holds before it looks for ended ones
+RESOLUTION = 0.5e-9  # s: a timer is due at the nearest ns
+LEFT_OUT = (  # methods for TCP
     "create_connection",
     "create_server",
     "connect_accepted_socket",
@@ -39,7 +39,7 @@ LEFT_OUT = (
 NO_SYSTEM = (
     "a simulated host has no processes, pipes, Unix sockets and signals: `hinge run --simulated` takes programs into simulated time"
 )
-OF_THE_SYSTEM = (
+OF_THE_SYSTEM = (  # methods for processes, pipes, Unix sockets and signals
     "create_unix_connection",
     "create_unix_server",
     "subprocess_exec",
@@ -58,25 +58,27 @@ class Loop(asyncio.BaseEventLoop):
 
     def __init__(self, net: Network) -> None:
         super().__init__()
-        self.net, self.descriptors, self.baton = net, Descriptors(self), Baton(self)
+        self.net = net
+        self.descriptors = Descriptors(self)
+        self.baton = Baton(self)
         self._selector = self.clock = Clock(self)
         self._clock_resolution = RESOLUTION
-        self.count = 0  # of tasks that were made
-        self.tasks: list[Task[Any]] = []
-        self.room = FEW_TASKS
+        self.count = 0  # the number of tasks so far
+        self.tasks: list[Task[Any]] = []  # the tasks that the loop holds: all unfinished ones, and some others
+        self.room = FEW_TASKS  # the length of `tasks` at which the loop removes finished tasks
         self.set_task_factory(lambda loop, coroutine, **more: Task(coroutine, loop=self, **more))
 
     def time(self) -> float:
-        """Returns the seconds since the loop was created. `clock.now` contains the ns."""
+        """Returns the simulated seconds since the loop was created. `clock.now` contains the ns."""
         return self.clock.seconds
 
     def resolve(self, resolution: float) -> None:
-        """Sets the distance between representable floats at the current time. A timer is due at the nearest."""
+        """Sets the clock's resolution to `resolution`, the distance between two floats at the current time. A timer is due at the
+        nearest float."""
         self._clock_resolution = max(RESOLUTION, resolution)
 
     def _process_events(self, events: list[asyncio.Handle]) -> None:
-        """Adds the callbacks of readable and writable descriptors. The clock delivers other datagrams directly to their
-        sockets."""
+        """Schedules the callbacks of readable and writable descriptors. The clock delivers datagrams directly to their sockets."""
         for handle in events:
             self._add_callback(handle)  # type: ignore[attr-defined]
 
@@ -84,20 +86,20 @@ class Loop(asyncio.BaseEventLoop):
         """Does nothing: requests from other threads wait for the loop's next step."""
 
     def keep(self, task: Task[Any]) -> None:
-        """Keeps a reference to a task until it ends. Otherwise the garbage collector could end a waiting task."""
+        """Keeps a reference to a task until the task ends. Otherwise the garbage collector could end a waiting task."""
         if len(self.tasks) >= self.room:
-            self.tasks = [it for it in self.tasks if not it.done()]
+            self.tasks = [each for each in self.tasks if not each.done()]
             self.room = max(FEW_TASKS, 2 * len(self.tasks))
         self.tasks.append(task)
 
     def pending(self) -> list[Task[Any]]:
-        """Returns the waiting tasks, in the order of their creation."""
+        """Returns the unfinished tasks except the current one, in the order of their creation."""
         current = asyncio.current_task(self)
         return [task for task in self.tasks if not task.done() and task is not current]
 
     def run_in_executor(self, executor: Any, func: Callable[..., T], *args: Any) -> asyncio.Future[T]:
-        """Runs the function in a thread of the run, which starts at once and yields when it waits; in this thread if the network is
-        `real`."""
+        """Runs a function in a new thread of the run, which yields instead of waiting, or in this thread if the network is `real`.
+        Returns the future for the function's result."""
         future: asyncio.Future[T] = self.create_future()
 
         def end(setter: Callable[[Any], None], value: object) -> None:
@@ -115,7 +117,7 @@ class Loop(asyncio.BaseEventLoop):
         if self.net.real:
             call()
         else:
-            threading.Thread(target=call, name="to_thread", daemon=True).start()  # which may wait for ever
+            threading.Thread(target=call, name="to_thread", daemon=True).start()  # a daemon, since it may wait for ever
         return future
 
     def add_reader(self, fd: Descriptor, callback: Callable[..., object], *args: Any) -> None:
@@ -131,16 +133,16 @@ class Loop(asyncio.BaseEventLoop):
         return self.descriptors.take_away(self.descriptors.writers, fd)
 
     async def _when_readable(self, sock: socket.socket, call: Callable[..., T], *args: Any) -> T:
-        """Returns the result of a call on a simulated socket, as soon as the socket has data."""
+        """Returns the result of a call on a simulated socket, which this method repeats until the socket has data."""
         simulated(sock).setblocking(False)
         while True:
             try:
                 return call(*args)
             except BlockingIOError:
-                came: asyncio.Future[None] = self.create_future()
-                self.add_reader(sock, came.set_result, None)
+                arrival: asyncio.Future[None] = self.create_future()
+                self.add_reader(sock, arrival.set_result, None)
                 try:
-                    await came
+                    await arrival
                 finally:
                     self.remove_reader(sock)
 
@@ -156,7 +158,7 @@ class Loop(asyncio.BaseEventLoop):
     async def getaddrinfo(
         self, host: Any, port: Any, *, family: int = 0, type: int = 0, proto: int = 0, flags: int = 0
     ) -> list[Any]:
-        """Returns the addresses of a host in the network, from an address or a name."""
+        """Returns the addresses of a host in the network, from an address or a name. gaierror: there is no such host."""
         return self.net.names.addresses_of(host, port, family, type, proto, flags)
 
     async def getnameinfo(self, sockaddr: Any, flags: int = 0) -> tuple[str, str]:
@@ -175,7 +177,8 @@ class Loop(asyncio.BaseEventLoop):
         sock: Optional[socket.socket] = None,
         **more: Any,
     ) -> tuple[Transport, Protocol]:
-        """Creates a transport on the task's host, or on the host with the local address; returns the transport and its protocol."""
+        """Creates a transport on the task's host, or on the host with the local address, and returns the transport and its
+        protocol. With `sock`, the transport uses this simulated socket and its queued datagrams."""
         if sock is not None:
             endpoint = simulated(sock).endpoint()
         else:
@@ -185,21 +188,24 @@ class Loop(asyncio.BaseEventLoop):
         transport = Transport(endpoint, protocol, None if sock is None else simulated(sock))
         self.call_soon(protocol.connection_made, transport)
         if sock is not None:
-            simulated(sock).given(transport)
+            simulated(sock).hand_over(transport)
         await asyncio.sleep(0)
         return transport, protocol
 
     def _bound(self, local: Optional[Address], remote: Optional[Address], family: int, shares: bool) -> Endpoint:
         """Returns an endpoint with a local address, connected to the remote address if any. NotImplementedError: the address is
-        a Unix socket's.
-        """
+        a Unix socket's. OSError: the local address is another host's, or the port is in use. gaierror: there is no such host."""
         if family == socket.AF_UNIX or isinstance(local or remote, str):
             raise NotImplementedError(NO_SYSTEM)
-        names = [plain(it[0] or "localhost") for it in (local, remote) if it]
-        version = version_of(family) if family else 6 if any(map(is_of_6, names)) and names[0] != "::1" else 4
-        name, port = (names[0], int(local[1])) if local else (any_of(version), 0)
+        names = [plain(address[0] or "localhost") for address in (local, remote) if address]
+        version = 6 if any(map(is_of_6, names)) and names[0] != "::1" else 4
+        if family:
+            version = version_of(family)
+        name = names[0] if local else any_of(version)
+        port = int(local[1]) if local else 0
         if name in (ANY, ANY_OF_6, *OWN):
-            host, address = current_host(), any_of(version)
+            host = current_host()
+            address = any_of(version)
         else:
             address = self.net.names.address_of(name, version)
             host = self.net.hosts[address]
@@ -215,17 +221,17 @@ class Loop(asyncio.BaseEventLoop):
 
 
 def refusing(text: str) -> Callable[..., NoReturn]:
-    """Returns a substitute for a missing method, which raises an error with advice."""
+    """Returns a method of the loop that raises NotImplementedError with this advice."""
 
-    def refuse(loop: Loop, *words: Any, **named: Any) -> NoReturn:
+    def refuse(loop: Loop, *arguments: Any, **keywords: Any) -> NoReturn:
         raise NotImplementedError(text)
 
     return refuse
 
 
 def receiving(name: str) -> Callable[..., Any]:
-    """Returns the loop's method for a method of sockets that waits for data."""
-    return lambda loop, sock, *words: loop._when_readable(sock, getattr(sock, name), *words)
+    """Returns the loop's method for the method `name` of sockets, which waits for data."""
+    return lambda loop, sock, *arguments: loop._when_readable(sock, getattr(sock, name), *arguments)
 
 
 for name in ("recv", "recv_into", "recvfrom", "recvfrom_into"):
@@ -237,7 +243,7 @@ for name in OF_THE_SYSTEM:
 
 
 def simulated(sock: socket.socket) -> DatagramSocket:
-    """Returns the simulated socket. NotImplementedError: it is a system socket."""
+    """Returns the socket, which must be simulated. NotImplementedError: it is a system socket."""
     if not isinstance(sock, DatagramSocket):
         raise NotImplementedError(f"{NO_TCP}; {sock!r} isn't a datagram socket of the run")
     return sock

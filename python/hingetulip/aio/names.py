@@ -1,4 +1,4 @@
-"""The names and addresses of a network's hosts, as the functions of the system answer for them."""
+"""Looks up the names and addresses of a network's hosts, in place of the system's functions."""
 
 from __future__ import annotations
 
@@ -20,10 +20,12 @@ class Names:
     """The names and addresses of a network's hosts."""
 
     def __init__(self, hosts: dict[str, Host], numbers: dict[str, int]) -> None:
-        self.hosts, self.numbers = hosts, numbers
+        self.hosts = hosts  # the hosts, by each address and by name
+        self.numbers = numbers  # addresses as a history's numbers
 
     def address_of(self, name: str, version: int = 4) -> str:
-        """Returns a host's address, from an address or name. gaierror: there is no such host."""
+        """Returns a host's address in an IP version, from the host's name; an address of a host stays the same. gaierror: there is
+        no such host."""
         if name in OWN:
             return current_host().address
         if name in self.numbers:
@@ -33,38 +35,50 @@ class Names:
         return self.hosts[name].address_for(version)
 
     def addresses_of(self, host: Any, port: Any, family: int = 0, type: int = 0, proto: int = 0, flags: int = 0) -> list[Any]:
-        """Returns a host's addresses like getaddrinfo. gaierror: there is no such host, or it lacks an address in this family."""
-        name = "" if host is None else plain(host)
-        if host is None or name in OWN:
-            found = (ANY, ANY_OF_6) if host is None and flags & socket.AI_PASSIVE else current_host().addresses
-        elif is_address(name):
-            found = (name,)
-        elif name not in self.hosts:
-            raise socket.gaierror(socket.EAI_NONAME, f"there is no simulated host {name}")
-        else:
-            found = self.hosts[name].addresses
+        """Returns a host's addresses like getaddrinfo. gaierror: there is no such host or service, or the host has no address in
+        this family."""
         is_stream = type & ~FLAGS == socket.SOCK_STREAM
-        place = port_of(port, is_stream)
-        kinds = [(socket.AF_INET6, (it, place, 0, 0)) if is_of_6(it) else (socket.AF_INET, (it, place)) for it in found]
-        wanted = [it for it in kinds if family in (0, it[0])]
-        if not wanted:
-            raise socket.gaierror(socket.EAI_ADDRFAMILY, f"{host} has no address of {socket.AddressFamily(family).name}")
+        texts = self._texts_of(host, is_passive=bool(flags & socket.AI_PASSIVE))
+        number = port_of(port, is_stream)
+        kind = socket.SocketKind(type or socket.SOCK_DGRAM)
         protocol = proto or (socket.IPPROTO_TCP if is_stream else UDP)
-        return [(kind, socket.SocketKind(type or socket.SOCK_DGRAM), protocol, "", address) for kind, address in wanted]
+        rows: list[Any] = []
+        for text in texts:
+            if is_of_6(text) and family in (0, socket.AF_INET6):
+                rows.append((socket.AF_INET6, kind, protocol, "", (text, number, 0, 0)))
+            elif not is_of_6(text) and family in (0, socket.AF_INET):
+                rows.append((socket.AF_INET, kind, protocol, "", (text, number)))
+        if not rows:
+            raise socket.gaierror(socket.EAI_ADDRFAMILY, f"{host} has no address of {socket.AddressFamily(family).name}")
+        return rows
 
-    def found(self, name: str) -> tuple[str, list[str], list[str]]:
-        """Returns a host in the format of gethostbyname_ex."""
+    def _texts_of(self, host: Any, is_passive: bool) -> tuple[str, ...]:
+        """Returns the addresses for a host's name or address; for None those of the current host or, if a socket waits there, the
+        addresses that stand for all. gaierror: there is no such host."""
+        if host is None:
+            return (ANY, ANY_OF_6) if is_passive else current_host().addresses
+        name = plain(host)
+        if name in OWN:
+            return current_host().addresses
+        if is_address(name):
+            return (name,)
+        if name not in self.hosts:
+            raise socket.gaierror(socket.EAI_NONAME, f"there is no simulated host {name}")
+        return self.hosts[name].addresses
+
+    def by_name(self, name: str) -> tuple[str, list[str], list[str]]:
+        """Returns a host in the format of gethostbyname_ex. gaierror: there is no such host."""
         address = self.addresses_of(name, 0, socket.AF_INET)[0][4][0]
         return self.hosts[address].name if address in self.hosts else name, [], [address]
 
     def functions(self) -> dict[tuple[ModuleType, str], Either]:
-        """Returns the system's functions for names, answered from the hosts."""
-        answers: dict[str, Either] = {
+        """Returns the makers of the run's functions for names, by module and name."""
+        functions: dict[str, Either] = {
             "getaddrinfo": lambda own: self.addresses_of,
-            "gethostbyname": lambda own: lambda name: self.found(name)[2][0],
-            **dict.fromkeys(("gethostbyname_ex", "gethostbyaddr"), lambda own: self.found),
+            "gethostbyname": lambda own: lambda name: self.by_name(name)[2][0],
+            **dict.fromkeys(("gethostbyname_ex", "gethostbyaddr"), lambda own: self.by_name),
             "getnameinfo": lambda own: lambda address, flags: (str(address[0]), str(address[1])),
             "gethostname": lambda own: lambda: current_host().name if here.get(None) else own(),
             "if_nameindex": lambda own: lambda: [(1, current_host().name)] if here.get(None) else own(),
         }
-        return {(_socket, name): answer for name, answer in answers.items()}
+        return {(_socket, name): function for name, function in functions.items()}

@@ -1,4 +1,4 @@
-"""OpenSSL's random numbers during a run, which depend on the seed if the process uses the shared library libcrypto."""
+"""Replaces OpenSSL's random numbers during a run by numbers from the seed, if the process uses the shared library libcrypto."""
 
 from __future__ import annotations
 
@@ -15,16 +15,18 @@ FUNCTIONS = "seed", "bytes", "cleanup", "add", "pseudorand", "status"
 
 
 class Method(ctypes.Structure):
-    """OpenSSL's RAND_METHOD."""
+    """OpenSSL's struct RAND_METHOD."""
 
     _fields_ = [(name, ctypes.c_void_p) for name in FUNCTIONS]
 
 
 def libcrypto() -> Optional[ctypes.CDLL]:
-    """Returns this process's libcrypto, if loaded and open to a replacement for its random numbers."""
-    found = LOADED.search(Path("/proc/self/maps").read_text())
+    """Returns this process's libcrypto; None if the library isn't loaded, or lacks the function that replaces random numbers."""
+    path = LOADED.search(Path("/proc/self/maps").read_text())
+    if path is None:
+        return None
     try:
-        library = ctypes.CDLL(found[1]) if found else None
+        library = ctypes.CDLL(path[1])
     except OSError:
         return None
     return library if hasattr(library, "RAND_set_rand_method") else None
@@ -32,7 +34,7 @@ def libcrypto() -> Optional[ctypes.CDLL]:
 
 @contextmanager
 def random_of_openssl(seed: int) -> Iterator[None]:
-    """Within this block, OpenSSL's random numbers come from a seed, if hinge-clock.so is there."""
+    """Makes OpenSSL's random numbers follow from a seed within the context, if there is hinge-clock.so."""
     library = libcrypto()
     if library is None or LIBRARY is None:
         yield

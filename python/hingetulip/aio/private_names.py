@@ -1,4 +1,4 @@
-"""Private names in asyncio that this package uses. They are checked on import, since a new Python version may change them."""
+"""Checks the private names of asyncio that this package uses, on import, since a new Python version may change them."""
 
 from __future__ import annotations
 
@@ -9,7 +9,7 @@ from typing import Mapping
 
 from hingetulip.aio.switched import is_known
 
-NAMES = {
+NAMES = {  # the loop's functions, and the private names in each
     "_run_once": ("_selector", "select", "_process_events", "_clock_resolution"),
     "call_soon_threadsafe": ("_write_to_self",),
     "_add_callback": ("_ready",),
@@ -18,17 +18,19 @@ NAMES = {
 
 
 def changed(functions: Mapping[str, object]) -> list[str]:
-    """Returns the missing names, each with the loop function that used the name."""
-    found = []
+    """Returns a text for each name that a function of the loop no longer uses. `functions` contains the loop's functions."""
+    faults = []
     for function, names in NAMES.items():
         code = functions.get(function)
-        known = code.__code__.co_names if isinstance(code, FunctionType) else ()
-        found += [f"BaseEventLoop.{function} without {name}" for name in names if name not in known]
-    return found
+        present = code.__code__.co_names if isinstance(code, FunctionType) else ()
+        faults += [f"BaseEventLoop.{function} without {name}" for name in names if name not in present]
+    return faults
 
 
 def check() -> None:
-    """ImportError: this Python's event loop differs from those that this package supports."""
-    faults = changed(vars(asyncio.BaseEventLoop)) + ["other functions in C, or no GIL"] * (not is_known())
+    """Checks this Python. ImportError: this package doesn't support the event loop, or the layout of C functions."""
+    faults = changed(vars(asyncio.BaseEventLoop))
+    if not is_known():
+        faults.append("other functions in C, or no GIL")
     if faults:
         raise ImportError(f"hingetulip.aio doesn't know Python {sys.version.split()[0]}, but 3.9 to 3.13: {', '.join(faults)}")

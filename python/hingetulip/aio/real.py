@@ -1,5 +1,5 @@
-"""Real calls during a run in simulated time. Python's audit events reveal some in advance; these are refused in the run's thread.
-Others are reported."""
+"""Refuses or reports real calls during a run in simulated time. Python's audit events reveal some calls in advance, which are
+refused in the run's threads; others are reported."""
 
 from __future__ import annotations
 
@@ -13,22 +13,23 @@ import time
 from collections import Counter
 from contextlib import contextmanager
 from importlib import import_module
-from typing import TYPE_CHECKING, Any, Callable, Iterator, Optional
+from typing import TYPE_CHECKING, Any, Iterator
 
 from hingetulip.aio.addresses import FLAGS
-from hingetulip.aio.member import LONGEST
 from hingetulip.aio.border import LIBRARY, calls
 from hingetulip.aio.refusals import ALLOWED, NO_TCP, OF_C, SOCKET, RealTimeError
+from hingetulip.aio.selecting import Selecting
 from hingetulip.aio.switched import Either, Function, note_all, of_run, switched
+from hingetulip.aio.thread_functions import ThreadFunctions
 
 if TYPE_CHECKING:
     from hingetulip.aio.descriptors import Descriptors
 
-UNWATCHED = ["what C code did wasn't watched, without hinge-clock.so"] * (LIBRARY is None)
-REACHING = ("socket.connect", "socket.bind", "socket.sendto", "socket.sendmsg")
+UNWATCHED = ["what C code did wasn't watched, without hinge-clock.so"] if LIBRARY is None else []
+REACHING = ("socket.connect", "socket.bind", "socket.sendto", "socket.sendmsg")  # audit events of calls that reach the network
 OF_PROCESSES = ("subprocess.Popen", "os.system", "os.fork", "os.forkpty", "os.posix_spawn", "os.exec", "pty.spawn")
 SPAWNED = "_posixsubprocess.fork_exec"
-UNHEARD = (
+UNHEARD = (  # functions without an audit event
     SPAWNED,
     "posix.timerfd_create",
     *(f"_signal.{name}" for name in ("alarm", "setitimer", "pause", "sigwait", "sigwaitinfo", "sigtimedwait")),
@@ -36,24 +37,25 @@ UNHEARD = (
 
 
 class RealUses:
-    """Real calls during a network's runs that are allowed, for the report: system sockets, processes and waits in other threads and
-    C code, and system descriptors passed to the loop."""
+    """The real calls during a network's runs, for the report. Allowed are system sockets in other threads, processes, calls of C
+    code, and system descriptors that the loop watches."""
 
     def __init__(self) -> None:
-        self.threads: dict[str, None] = {}
-        self.descriptors: dict[int, None] = {}
-        self.calls, self.refused = Counter[str](), Counter[str]()
+        self.threads: dict[str, None] = {}  # the names of other threads that used system sockets, in order
+        self.descriptors: dict[int, None] = {}  # the system's descriptors that the loop watches, in order
+        self.calls = Counter[str]()  # the calls, by function
+        self.refused = Counter[str]()  # the refused calls, by reason
         self.has_threads_of_c = False
-        installed()
+        install_hook()
 
-    def saw(self, event: str, words: Any) -> None:
-        """Counts what Python's audit hook is told during a run. RealTimeError: a socket of the system is refused."""
+    def count_event(self, event: str, arguments: Any) -> None:
+        """Counts a call that Python's audit hook reports. RealTimeError: a thread of the run uses a system socket."""
         if event in OF_PROCESSES:
             self.calls[event] += 1
-        elif words[0].family == socket.AF_UNIX:
-            return  # of programs of this machine, which C code's counts have
+        elif arguments[0].family == socket.AF_UNIX:
+            return  # reaches programs on this machine only, and counts as a call of C code
         elif threading.get_ident() in of_run:
-            is_tcp = is_stream(words[0]) and words[0].family in (socket.AF_INET, socket.AF_INET6)
+            is_tcp = is_stream(arguments[0]) and arguments[0].family in (socket.AF_INET, socket.AF_INET6)
             why = NO_TCP if is_tcp else SOCKET + ALLOWED
             self.refused[why] += 1
             raise RealTimeError(why)
@@ -61,7 +63,7 @@ class RealUses:
             self.threads[threading.current_thread().name] = None
 
     def has_processes(self) -> bool:
-        """Returns whether the run started processes, and a child of this process is left."""
+        """Returns whether the run started processes, and this process still has a child."""
         if not any(self.calls[name] for name in (*OF_PROCESSES, SPAWNED)):
             return False
         try:
@@ -71,35 +73,42 @@ class RealUses:
         return True
 
     def counted(self, name: str) -> Either:
-        """Returns the counted version of a function without an audit event, unless `subprocess` calls it, whose event was counted."""
+        """Returns the maker of a version that counts calls, for a function without an audit event. Calls from the module
+        `subprocess` don't count here, since an audit event of that module counts them."""
 
         def in_run(own: Function) -> Function:
-            def call(*words: Any, **named: Any) -> Any:
-                self.calls[name] += name != SPAWNED or sys._getframe(2).f_globals.get("__name__") != "subprocess"
-                return own(*words, **named)
+            def call(*arguments: Any, **keywords: Any) -> Any:
+                if name != SPAWNED or sys._getframe(2).f_globals.get("__name__") != "subprocess":
+                    self.calls[name] += 1
+                return own(*arguments, **keywords)
 
             return call
 
         return in_run
 
     def gather(self) -> None:
-        """Adds C code's calls so far, if they belong to a run of this network."""
+        """Adds the calls of C code so far, if a run of this network is under way."""
         if watches and watches[-1] is self:
             self.calls.update(calls())
 
     def all(self) -> Counter[str]:
-        """Returns how often each real function was called; a thread or descriptor counts once."""
+        """Returns how often each real function was called. Each thread and each descriptor counts once."""
         self.gather()
-        found = Counter({f"the thread {name} used a socket of the system": 1 for name in self.threads})
+        counts = Counter({f"the thread {name} used a socket of the system": 1 for name in self.threads})
         if self.descriptors:
             numbers = ", ".join(map(str, self.descriptors))
-            found[f"the loop waited for descriptors of the system ({numbers})"] = len(self.descriptors)
-        return found + self.calls
+            counts[f"the loop waited for descriptors of the system ({numbers})"] = len(self.descriptors)
+        return counts + self.calls
 
     def lines(self) -> list[str]:
-        """Returns the report's lines; refusals are among them, since libraries may swallow these."""
-        lines = [f"real: {name}{f', {count} calls' if count > 1 else ''}" for name, count in self.all().items()]
-        lines += [f"real: {it}" for it in UNWATCHED] + [OF_C] * self.has_threads_of_c
+        """Returns the report's lines, including refusals, since libraries may hide these errors."""
+        lines = []
+        for name, count in self.all().items():
+            times = f", {count} calls" if count > 1 else ""
+            lines.append(f"real: {name}{times}")
+        lines += [f"real: {text}" for text in UNWATCHED]
+        if self.has_threads_of_c:
+            lines.append(OF_C)
         return lines + [f"refused, {count} calls: {why}" for why, count in self.refused.items()]
 
 
@@ -107,16 +116,21 @@ class Sum:
     """The real calls and refusals in all runs since the last reset, for a report on several runs."""
 
     def __init__(self) -> None:
-        self.runs, self.calls, self.refused = 0, Counter[str](), 0
+        self.runs = 0
+        self.calls = Counter[str]()
+        self.refused = 0
 
     def add(self, calls: Counter[str], refused: int) -> None:
-        self.runs, self.calls, self.refused = self.runs + 1, self.calls + calls, self.refused + refused
+        """Adds a run's calls, and its number of refusals."""
+        self.runs += 1
+        self.calls = self.calls + calls
+        self.refused += refused
 
     def taken(self) -> Sum:
-        """The sum, which begins anew."""
-        made = Sum()
-        made.__dict__, self.__dict__ = self.__dict__, made.__dict__
-        return made
+        """Returns the sum so far, and resets this sum."""
+        total = Sum()
+        total.__dict__, self.__dict__ = self.__dict__, total.__dict__
+        return total
 
 
 OF_PROCESS = Sum()
@@ -128,6 +142,7 @@ def threads_of_c() -> set[str]:
 
 
 def is_stream(sock: socket.socket) -> bool:
+    """Returns whether a socket is a stream, as for TCP."""
     return sock.type & ~FLAGS == socket.SOCK_STREAM
 
 
@@ -135,93 +150,39 @@ def family_of(descriptor: int) -> int:
     """Returns the family of a system socket; AF_UNIX for other descriptors."""
     copy = os.dup(descriptor)
     try:
-        made = socket.socket(fileno=copy)
+        sock = socket.socket(fileno=copy)
     except OSError:
         os.close(copy)
         return socket.AF_UNIX
-    with made:
-        return made.family
+    with sock:
+        return sock.family
 
 
-SEEN = frozenset(REACHING + OF_PROCESSES)
-watches: list[RealUses] = []  # those of the run, if one is under way
+COUNTED = frozenset(REACHING + OF_PROCESSES)
+watches: list[RealUses] = []  # the real uses of the run that is under way, if there is a run
 
 
-def hook(event: str, words: Any) -> None:
+def hook(event: str, arguments: Any) -> None:
+    """Counts a call as Python's audit hook, and forgets the known C functions at an import."""
     if event == "import":
         note_all.cache_clear()
-    if watches and event in SEEN:
-        watches[-1].saw(event, words)
+    if watches and event in COUNTED:
+        watches[-1].count_event(event, arguments)
 
 
 @functools.lru_cache(None)
-def installed() -> list[RealUses]:
-    """Returns the real uses that the audit hook asks. Hooks can't be removed, so there is a single one."""
+def install_hook() -> None:
+    """Adds the audit hook, once, since hooks can't be removed."""
     sys.addaudithook(hook)
     note_all.cache_clear()
-    return watches
-
-
-class Selecting:
-    """Calls that wait until a descriptor is ready, where simulated sockets have descriptors."""
-
-    def __init__(self, descriptors: Descriptors, uses: RealUses) -> None:
-        self.descriptors, self.baton, self.uses = descriptors, descriptors.loop.baton, uses
-
-    def answer(self, ask: Callable[[Any], Any], timeout: Any, nothing: Any, scale: float = 1, has_own: bool = False) -> Any:
-        """Returns what is ready, now or (in a yielding thread) before the timeout. A call only for system descriptors waits really in
-        the loop's thread, and elsewhere if the run has processes, unless it `has_own` timers, like another event loop."""
-        answers = [nothing]
-
-        def ready() -> bool:
-            self.descriptors.settle()
-            answers[0] = ask(0)
-            return bool(answers[0] != nothing)
-
-        def really() -> Optional[bool]:
-            is_bounded = seconds is not None and seconds < LONGEST
-            answers[0] = ask(timeout if is_bounded else LONGEST * scale)
-            return bool(answers[0] != nothing) or (False if is_bounded else None)
-
-        seconds = None if timeout is None or timeout < 0 else timeout / scale
-        member, is_own = self.baton.member(), has_own or self.is_simulated(ask, nothing)
-        if member is not None and seconds == 0 and not has_own:
-            seconds = member.again(self.baton.loop.clock.now)
-        is_met = self.baton.wait(ready, seconds, None if member is not None or is_own else really, not is_own)
-        if member is None and seconds == 0 and not has_own and not is_met:
-            self.baton.look()
-        return answers[0]
-
-    def is_simulated(self, ask: Callable[[Any], Any], nothing: Any) -> bool:
-        """Returns whether a call concerns a simulated socket."""
-        ask(0)  # gives each simulated socket its descriptor
-        self.descriptors.settle(are_all=True)
-        found = ask(0) != nothing
-        self.descriptors.settle()
-        return bool(self.descriptors.sockets) and found
-
-    def select(self, own: Function) -> Function:
-        def selected(*words: Any) -> Any:
-            timeout = (*words[3:], None)[0]
-            return self.answer(lambda it: own(*words[:3], it), timeout, ([], [], []), has_own=not any(words[:3]))
-
-        return selected
-
-    def poll(self, own: Function) -> Function:
-        return lambda poll, timeout=None: self.answer(lambda it: own(poll, it), timeout, [], 1000)
-
-    def epoll(self, own: Function) -> Function:
-        return lambda epoll, timeout=None, maxevents=-1: self.answer(
-            lambda it: own(epoll, it, maxevents), timeout, [], has_own=True
-        )
 
 
 @contextmanager
 def real_refused(uses: RealUses, descriptors: Descriptors) -> Iterator[None]:
-    """Refuses real calls in this thread, or reports them, within the context."""
-    selecting = Selecting(descriptors, uses)
+    """Refuses real calls in the run's threads, and counts other real calls in `uses`, within the context."""
+    selecting = Selecting(descriptors)
     functions: dict[tuple[Any, str], Either] = {
-        (time, "sleep"): descriptors.loop.baton.sleep,
+        (time, "sleep"): ThreadFunctions(descriptors.loop.baton).sleep,
         (select, "select"): selecting.select,
         (type(select.poll()), "poll"): selecting.poll,
         (select.epoll, "poll"): selecting.epoll,
@@ -230,13 +191,16 @@ def real_refused(uses: RealUses, descriptors: Descriptors) -> Iterator[None]:
     for name in UNHEARD:
         module, _, function = name.partition(".")
         functions[import_module(module), function] = uses.counted(name)
-    before, refused, of_c, baton = uses.all(), sum(uses.refused.values()), threads_of_c(), descriptors.loop.baton
-    installed().append(uses)
+    calls_before = uses.all()
+    refused_before = sum(uses.refused.values())
+    c_threads_before = threads_of_c()
+    watches.append(uses)
     try:
         with switched(functions):
             yield
     finally:
         uses.gather()
         watches.pop()
-        OF_PROCESS.add(uses.all() - before, sum(uses.refused.values()) - refused)
-        uses.has_threads_of_c = bool(threads_of_c() - of_c - {member.native_id for member in baton.members.values()})
+        OF_PROCESS.add(uses.all() - calls_before, sum(uses.refused.values()) - refused_before)
+        members = {member.native_id for member in descriptors.loop.baton.members.values()}
+        uses.has_threads_of_c = bool(threads_of_c() - c_threads_before - members)

@@ -1,4 +1,4 @@
-"""Routes over several links."""
+"""Chooses routes over several links."""
 
 from __future__ import annotations
 
@@ -11,23 +11,25 @@ if TYPE_CHECKING:
 
 
 class Routes:
-    """Finds the next link for a datagram: on a path with the fewest links, or, among equal paths, the links created first."""
+    """Chooses the next link for a datagram: on a path with the fewest links and, among equal paths, on the links created first."""
 
     def __init__(self) -> None:
-        self.out: dict[Host, list[Link]] = {}
-        self.chosen: dict[tuple[Host, Host], Optional[Link]] = {}
-        self.given: dict[tuple[Host, Host], Link] = {}
-        self.untaken: dict[tuple[Host, Host], Link] = {}  # of those
-        self.first: dict[Host, dict[Host, Link]] = {}
+        self.out: dict[Host, list[Link]] = {}  # the links from each host
+        self.chosen: dict[tuple[Host, Host], Optional[Link]] = {}  # the results of `next` so far, by host and target
+        self.fixed: dict[tuple[Host, Host], Link] = {}  # the links that `give` set
+        self.untaken: dict[tuple[Host, Host], Link] = {}  # those of `fixed` that no datagram has used
+        self.first: dict[Host, dict[Host, Link]] = {}  # the first link from each host to each reachable host
 
     def add(self, link: Link) -> None:
+        """Adds a link, which may change all chosen links."""
         self.out.setdefault(link.near, []).append(link)
         self.chosen.clear()
         self.first.clear()
 
     def give(self, near: Host, target: Host, link: Link) -> None:
         """Sets the link for datagrams from a host to a target."""
-        self.given[near, target] = self.untaken[near, target] = link
+        self.fixed[near, target] = link
+        self.untaken[near, target] = link
         self.chosen.clear()
 
     def next(self, near: Host, target: Host) -> Optional[Link]:
@@ -36,28 +38,31 @@ class Routes:
             return self.chosen[near, target]
         except KeyError:
             self.untaken.pop((near, target), None)
-            found = self.chosen[near, target] = self.given.get((near, target)) or self._search(near, target)
-            return found
+            link = self.fixed.get((near, target)) or self._search(near, target)
+            self.chosen[near, target] = link
+            return link
 
     def _search(self, near: Host, target: Host) -> Optional[Link]:
+        """Returns the first link of a shortest path; None if there is no path."""
         links = self.out.get(near, [])
-        if len(links) == 1:  # a leaf needs no ways of its own: so a star has as many as its middle
+        if len(links) == 1:  # a leaf needs no table: a star's only table is that of its middle
             (only,) = links
-            return only if only.far is target or target in self._ways(only.far) else None
-        return self._ways(near).get(target)
+            return only if only.far is target or target in self._first_links(only.far) else None
+        return self._first_links(near).get(target)
 
-    def _ways(self, near: Host) -> dict[Host, Link]:
-        """Returns the first link to each reachable host."""
+    def _first_links(self, near: Host) -> dict[Host, Link]:
+        """Returns the first link from a host to each reachable host, and keeps the table."""
         if near not in self.first:
-            self.first[near] = self._found(near)
+            self.first[near] = self._search_all(near)
         return self.first[near]
 
-    def _found(self, near: Host) -> dict[Host, Link]:
-        ways = deque((link, link.far) for link in self.out.get(near, ()))
-        found: dict[Host, Link] = {}
-        while ways:
-            first, host = ways.popleft()
-            if host not in found and host is not near:
-                found[host] = first
-                ways.extend((first, link.far) for link in self.out.get(host, ()))
-        return found
+    def _search_all(self, near: Host) -> dict[Host, Link]:
+        """Returns the first link to each reachable host, after a breadth-first search."""
+        ends = deque((link, link.far) for link in self.out.get(near, ()))
+        first_links: dict[Host, Link] = {}
+        while ends:
+            first, host = ends.popleft()
+            if host not in first_links and host is not near:
+                first_links[host] = first
+                ends.extend((first, link.far) for link in self.out.get(host, ()))
+        return first_links

@@ -1,4 +1,4 @@
-"""Python's clock and random numbers in the thread of a run: the simulated time, and numbers of the seed."""
+"""Replaces Python's clock and random numbers in a run's threads: by the simulated time, and by numbers from the seed."""
 
 from __future__ import annotations
 
@@ -23,22 +23,29 @@ from hingetulip.aio.switched import Either, Function, own_of, switched
 if TYPE_CHECKING:
     from hingetulip.aio.loop import Loop
 
-UUIDS: Any = getattr(uuid, "_uuid", None)  # in C, where the system has that
-ONE = threading.Lock()  # a run: it has the clock and the random numbers of its thread, and counts what is real in the process
-REAL = (time.CLOCK_REALTIME, getattr(time, "CLOCK_TAI", time.CLOCK_REALTIME))
-OFTEN, LONG = 100, 20  # times in a step of the loop, and real s from then on, after which code waits for a clock that stands still
+UUIDS: Any = getattr(uuid, "_uuid", None)  # the module in C, which some systems lack
+ONE = threading.Lock()  # held by the process's single run, which counts the real calls in the whole process
+REAL = (time.CLOCK_REALTIME, getattr(time, "CLOCK_TAI", time.CLOCK_REALTIME))  # clocks that count from 1970
+OFTEN = 100  # the number of looks at the clock in a step of the loop from which on a run measures the real time
+LONG = 20  # the real s from then on after which the run assumes that code waits for the clock, which stands still meanwhile
 STILL = (
     "code has asked for the time again and again, and it stands still until that code gives it way: write `await asyncio.sleep(..)`"
 )
 own_time = own_of(time, "monotonic")
-TICKS_TO_1970, MOST_OF_4, MOST_OF_2 = 0x01B21DD213814000, 2**32 - 1, 2**16 - 1  # of a UUID's time: 100 ns since 1582
-STEADY = "monotonic", "perf_counter", "process_time", "thread_time"  # clocks that begin with the run: computing takes no time
+TICKS_TO_1970 = 0x01B21DD213814000  # a UUID's time counts ticks of 100 ns since 1582
+MOST_OF_4, MOST_OF_2 = 2**32 - 1, 2**16 - 1  # the greatest numbers in 4 and 2 bytes
+STEADY = (
+    "monotonic",
+    "perf_counter",
+    "process_time",
+    "thread_time",
+)  # clocks that begin with the run, and that computations don't move
 
 
 @contextmanager
 def simulated(loop: Loop, source: random.Random) -> Iterator[None]:
-    """The module `time` and `datetime.now` return the simulated time, and so does the clock of OpenSSL. Numbers of `random`, `secrets`,
-    `os.urandom`, OpenSSL and NumPy come from `source`. RuntimeError: another run is under way."""
+    """Makes `time`, `datetime.now` and OpenSSL's clock return the simulated time, and draws the numbers of `random`, `secrets`,
+    `os.urandom`, OpenSSL and NumPy from `source`, within the context. RuntimeError: another run is under way."""
     if not ONE.acquire(blocking=False):
         raise RuntimeError("another run of simulated time is under way in this process, in another thread or around this one")
     try:
@@ -49,7 +56,7 @@ def simulated(loop: Loop, source: random.Random) -> Iterator[None]:
 
 
 def offset() -> float:
-    """Returns how far the current host's clock is ahead, in seconds."""
+    """Returns how far the current host's clock is ahead, in seconds, and counts this look at the clock; 0 if no host is current."""
     host = here.get(None)
     if host is None:
         return 0
@@ -59,48 +66,63 @@ def offset() -> float:
     return host.offset + host.drift * host.net.loop.time()
 
 
-class Told:
-    """The values of a clock's functions."""
+class TimeFunctions:
+    """Makes the run's version of each function for the time, from `own`, the system's version."""
 
     def __init__(self, loop: Loop) -> None:
-        self.loop, self.clock, self.start = loop, loop.clock, loop.net.start
+        self.clock = loop.clock
+        self.start = loop.net.start
 
-    def now(self) -> int:
-        """Returns the simulated time in ns. RealTimeError: code keeps asking for the time within a single step of the loop."""
+    def count_look(self) -> None:
+        """Counts a look at the clock. RealTimeError: code keeps asking for the time within a single step of the loop."""
         clock = self.clock
         clock.asked += 1
         if clock.asked == OFTEN:
             clock.asked_since = own_time()
         elif clock.asked > OFTEN and own_time() - clock.asked_since > LONG:
             raise RealTimeError(STILL)
-        return clock.now
+
+    def now(self) -> int:
+        """Returns the ns since the run's beginning."""
+        self.count_look()
+        return self.clock.now
 
     def ns(self) -> int:
+        """Returns the ns since 1970 on the current host."""
         return round((self.start + offset()) * NS) + self.now()
 
-    def growing(self) -> float:
-        return self.now() and self.clock.seconds
+    def steady_seconds(self) -> float:
+        """Returns the seconds since the run's beginning."""
+        self.count_look()
+        return self.clock.seconds
 
     def seconds(self) -> float:
-        return self.start + offset() + self.growing()
+        """Returns the seconds since 1970 on the current host."""
+        return self.start + offset() + self.steady_seconds()
 
     def of_clock(self, clock: int) -> float:
-        return self.seconds() if clock in REAL else self.growing()
+        """Returns the seconds of a clock, from 1970 or from the run's beginning."""
+        return self.seconds() if clock in REAL else self.steady_seconds()
 
     def ns_of_clock(self, clock: int) -> int:
+        """Returns the ns of a clock, from 1970 or from the run's beginning."""
         return self.ns() if clock in REAL else self.now()
 
     def at(self, own: Function) -> Function:
-        """Returns a function of a moment, by default the current one."""
+        """Returns a function of a moment in seconds, by default the current moment."""
         return lambda seconds=None: own(self.seconds() if seconds is None else seconds)
 
-    def written(self, own: Function) -> Function:
-        return lambda *words: own(*(words or (time.localtime(),)))
+    def asctime(self, own: Function) -> Function:
+        """Returns `time.asctime`, by default for the current moment."""
+        return lambda *arguments: own(*(arguments or (time.localtime(),)))
 
-    def formatted(self, own: Function) -> Function:
-        return lambda form, *words: own(form, *(words or (time.localtime(),)))
+    def strftime(self, own: Function) -> Function:
+        """Returns `time.strftime`, by default for the current moment."""
+        return lambda form, *arguments: own(form, *(arguments or (time.localtime(),)))
 
-    def of_calendar(self, own: Function) -> Function:
+    def datetime_now(self, own: Function) -> Function:
+        """Returns `datetime.now`."""
+
         def now(kind: Any, tz: Optional[datetime.tzinfo] = None) -> Any:
             seconds, ns = divmod(self.ns(), NS)
             return kind.fromtimestamp(seconds, tz).replace(microsecond=ns // 1000)
@@ -108,40 +130,52 @@ class Told:
         return now
 
     def utcnow(self, own: Function) -> Function:
+        """Returns `datetime.utcnow`."""
+
         def utcnow(kind: Any) -> Any:
             return kind.now(datetime.timezone.utc).replace(tzinfo=None)
 
         return utcnow
 
     def functions(self) -> dict[tuple[Any, str], Either]:
-        found: dict[str, Either] = {
+        """Returns the makers of all these functions, by module or class and name."""
+        of_time: dict[str, Either] = {
             "time": lambda own: self.seconds,
             "time_ns": lambda own: self.ns,
-            **dict.fromkeys(STEADY, lambda own: self.growing),
+            **dict.fromkeys(STEADY, lambda own: self.steady_seconds),
             **{f"{name}_ns": lambda own: self.now for name in STEADY},
             "clock_gettime": lambda own: self.of_clock,
             "clock_gettime_ns": lambda own: self.ns_of_clock,
             **dict.fromkeys(("localtime", "gmtime", "ctime"), self.at),
-            "strftime": self.formatted,
-            "asctime": self.written,
+            "strftime": self.strftime,
+            "asctime": self.asctime,
         }
-        of_days = {(datetime.datetime, "now"): self.of_calendar, (datetime.datetime, "utcnow"): self.utcnow}
-        return {(time, name): of_run for name, of_run in found.items()} | of_days
+        of_datetime = {(datetime.datetime, "now"): self.datetime_now, (datetime.datetime, "utcnow"): self.utcnow}
+        return {(time, name): make for name, make in of_time.items()} | of_datetime
 
 
-def drawn_from(source: random.Random) -> Either:
-    return lambda own: lambda count, *flags, **named: source.randbytes(count)
+def bytes_from(source: random.Random) -> Either:
+    """Returns a maker of functions for random bytes, such as `os.urandom`, which draw from `source`."""
+    return lambda own: lambda count, *flags, **keywords: source.randbytes(count)
 
 
-def uuid_of(told: Told, source: random.Random) -> Either:
-    """Returns a UUID from the simulated time and the seed. The system's library would ask a daemon."""
+def uuid_from(times: TimeFunctions, source: random.Random) -> Either:
+    """Returns a maker of the function that generates UUIDs from the time: from the simulated time and from `source`. The system's
+    library would ask a daemon."""
 
     def generate() -> tuple[bytes, int]:
-        ticks, node = told.ns() // 100 + TICKS_TO_1970, source.getrandbits(48) | 1 << 40
-        words = ticks & MOST_OF_4, ticks >> 32 & MOST_OF_2, ticks >> 48 | 1 << 12, source.getrandbits(14) | 1 << 15
-        return struct.pack(">IHHH", *words) + node.to_bytes(6, "big"), 0
+        ticks = times.ns() // 100 + TICKS_TO_1970
+        node = source.getrandbits(48) | 1 << 40
+        sequence = source.getrandbits(14) | 1 << 15
+        head = struct.pack(">IHHH", ticks & MOST_OF_4, ticks >> 32 & MOST_OF_2, ticks >> 48 | 1 << 12, sequence)
+        return head + node.to_bytes(6, "big"), 0
 
     return lambda own: generate
+
+
+def process_times(seconds: float) -> posix.times_result:
+    """Returns the result of `os.times`: `seconds` since the run's beginning, all in this process."""
+    return posix.times_result((seconds, 0.0, 0.0, 0.0, seconds))
 
 
 @contextmanager
@@ -161,16 +195,21 @@ def state_of_numpy(source: random.Random) -> Iterator[None]:
 
 @contextmanager
 def _patched(loop: Loop, source: random.Random) -> Iterator[None]:
-    told, state, of_c = Told(loop), random.getstate(), random.Random(f"C {loop.net.seed}")
+    """Replaces the functions for time and random numbers within the context."""
+    times = TimeFunctions(loop)
+    state = random.getstate()
+    of_c = random.Random(f"C {loop.net.seed}")  # a separate source, so that loading NumPy or C code changes no other number
     random.seed(source.getrandbits(64))
     try:
         with ExitStack() as stack:
             stack.enter_context(random_of_openssl(source.getrandbits(64)))
             stack.enter_context(state_of_numpy(of_c))
             stack.enter_context(border(loop.clock, round(loop.net.start * NS), of_c))
-            functions = {**told.functions(), **dict.fromkeys(((posix, "urandom"), (posix, "getrandom")), drawn_from(source))}
-            functions[posix, "times"] = lambda own: lambda: posix.times_result((told.growing(), 0.0, 0.0, 0.0, told.growing()))
-            functions.update({} if UUIDS is None else {(UUIDS, "generate_time_safe"): uuid_of(told, of_c)})
+            functions = times.functions()
+            functions[posix, "urandom"] = functions[posix, "getrandom"] = bytes_from(source)
+            functions[posix, "times"] = lambda own: lambda: process_times(times.steady_seconds())
+            if UUIDS is not None:
+                functions[UUIDS, "generate_time_safe"] = uuid_from(times, of_c)
             stack.enter_context(switched(functions))
             yield
     finally:

@@ -13,10 +13,11 @@ from unittest import mock
 
 from hingetulip.aio.addresses import FLAGS
 from hingetulip.aio.datagram_socket import DatagramSocket
-from hingetulip.aio.kept import given_anew
+from hingetulip.aio.libraries import libraries_adapted
 from hingetulip.aio.real import real_refused
 from hingetulip.aio.refusals import NO_COPY, RealTimeError
-from hingetulip.aio.switched import Either, of_run, switched
+from hingetulip.aio.switched import Either, Function, of_run, switched
+from hingetulip.aio.thread_functions import ThreadFunctions
 
 if TYPE_CHECKING:
     from hingetulip.aio.baton import Baton
@@ -24,8 +25,8 @@ if TYPE_CHECKING:
 
 Lock: Any = _thread.LockType
 LockAgain: Any = type(threading.RLock())
-HANDLES = [getattr(_thread, name) for name in dir(_thread) if name == "_ThreadHandle"]  # of Python 3.13's threads
-PROCESS_LOCKS = [kind for kind in [getattr(_multiprocessing, "SemLock", None)] if kind]  # which systems may lack
+HANDLES = [getattr(_thread, name) for name in dir(_thread) if name == "_ThreadHandle"]  # the type of Python 3.13's threads
+PROCESS_LOCKS = [_multiprocessing.SemLock] if hasattr(_multiprocessing, "SemLock") else []  # the type of locks between processes
 VIRTUAL = (-1, socket.AF_INET, socket.AF_INET6)
 
 
@@ -34,23 +35,38 @@ def is_virtual(family: int, type: int, fileno: object) -> bool:
     return fileno is None and family in VIRTUAL and type > 0 and type & ~FLAGS == socket.SOCK_DGRAM
 
 
+def by_acquire(own: Function) -> Function:
+    """Returns the run's version of another name for a lock's `acquire`, which calls the run's `acquire`."""
+    return lambda *arguments, **keywords: getattr(own, "__objclass__").acquire(*arguments, **keywords)
+
+
+def acquire_restore(own: Function) -> Function:
+    """Returns the function by which a condition acquires a reentrant lock again, as often as before its wait."""
+
+    def restore(lock: Any, state: Any) -> None:
+        for _ in range(state[0]):
+            lock.acquire()
+
+    return restore
+
+
 @contextmanager
 def threads_held(baton: Baton) -> Iterator[None]:
-    """Makes threads of the run yield within the context."""
-    acquired: Either = lambda own: lambda *words, **named: getattr(own, "__objclass__").acquire(*words, **named)
+    """Makes the run's threads yield instead of waiting, within the context."""
+    in_run = ThreadFunctions(baton)
     functions: dict[Any, Either] = {
-        (Lock, "acquire"): baton.acquire,
-        (LockAgain, "acquire"): baton.acquire_again,
-        **dict.fromkeys(((Lock, "acquire_lock"), (Lock, "__enter__"), (LockAgain, "__enter__")), acquired),
-        (LockAgain, "_acquire_restore"): lambda own: lambda lock, state: [lock.acquire() for _ in range(state[0])] and None,
-        (SimpleQueue, "get"): baton.get,
-        **{(kind, "acquire"): lambda own: baton.acquire(own, True) for kind in PROCESS_LOCKS},
-        **{(kind, "__enter__"): acquired for kind in PROCESS_LOCKS},
-        **{(kind, "join"): baton.join for kind in HANDLES},
-        (_thread, "start_new_thread"): baton.start_new_thread,
-        (_thread, "start_new"): baton.start_new_thread,
-        (_thread, "start_joinable_thread"): baton.start_joinable_thread,
-        (_thread, "_set_sentinel"): baton.set_sentinel,
+        (Lock, "acquire"): in_run.acquire,
+        (LockAgain, "acquire"): in_run.acquire_again,
+        **dict.fromkeys(((Lock, "acquire_lock"), (Lock, "__enter__"), (LockAgain, "__enter__")), by_acquire),
+        (LockAgain, "_acquire_restore"): acquire_restore,
+        (SimpleQueue, "get"): in_run.get,
+        **{(kind, "acquire"): lambda own: in_run.acquire(own, is_of_process=True) for kind in PROCESS_LOCKS},
+        **{(kind, "__enter__"): by_acquire for kind in PROCESS_LOCKS},
+        **{(kind, "join"): in_run.join for kind in HANDLES},
+        (_thread, "start_new_thread"): in_run.start_new_thread,
+        (_thread, "start_new"): in_run.start_new_thread,
+        (_thread, "start_joinable_thread"): in_run.start_joinable_thread,
+        (_thread, "_set_sentinel"): in_run.set_sentinel,
     }
     of_run.update({threading.get_ident(), *baton.members})
     try:
@@ -62,7 +78,8 @@ def threads_held(baton: Baton) -> Iterator[None]:
 
 @contextmanager
 def simulated_system(net: Network) -> Iterator[None]:
-    """Within this block, this thread's datagram sockets and names belong to the network, and real communication is refused."""
+    """Lets this thread's new datagram sockets and host names belong to the network, and refuses real communication, within the
+    context. RealTimeError, from a new socket: its descriptor is a simulated socket's."""
     own: Any = socket.socket.__new__
 
     def make(
@@ -80,5 +97,5 @@ def simulated_system(net: Network) -> Iterator[None]:
         stack.enter_context(real_refused(net.real_uses, net.loop.descriptors))
         stack.enter_context(mock.patch.object(socket.socket, "__new__", make))
         stack.enter_context(switched(net.names.functions()))
-        stack.enter_context(given_anew())
+        stack.enter_context(libraries_adapted())
         yield

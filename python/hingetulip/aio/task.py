@@ -1,4 +1,4 @@
-"""A task of the loop, with a number and a host."""
+"""The loop's tasks, each with a number and a host."""
 
 from __future__ import annotations
 
@@ -14,7 +14,7 @@ T = TypeVar("T")
 
 
 class Task(asyncio.Task[T]):
-    """A task whose hash is its number, so that sets of tasks, as in asyncio.wait or a TaskGroup, keep their order in each run."""
+    """A task whose hash is its number, so that sets of tasks, as in asyncio.wait, have the same order in each run."""
 
     def __init__(self, coroutine: Coroutine[Any, Any, T], *, loop: Loop, **more: Any) -> None:
         loop.count += 1
@@ -28,5 +28,5 @@ class Task(asyncio.Task[T]):
         return self.number
 
     def has_lost_exception(self) -> bool:
-        """Returns whether the task failed with an exception that nobody has retrieved."""
+        """Returns whether the task failed with an exception that no code has retrieved."""
         return self.done() and not self.cancelled() and bool(self._log_traceback)

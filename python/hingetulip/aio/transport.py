@@ -1,4 +1,4 @@
-"""A host's datagram socket as an asyncio transport."""
+"""The asyncio transport over a host's datagram socket."""
 
 from __future__ import annotations
 
@@ -18,13 +18,17 @@ Data = Union[bytes, bytearray, memoryview]
 
 
 class Transport(asyncio.DatagramTransport):
-    """A host's datagram socket."""
+    """Sends datagrams from a host's endpoint, and delivers datagrams to a protocol."""
 
     def __init__(self, endpoint: Endpoint, protocol: asyncio.DatagramProtocol, socket: Optional[DatagramSocket] = None) -> None:
-        self.host, self.endpoint, self.protocol, self.socket = endpoint.host, endpoint, protocol, socket
+        self.host = endpoint.host
+        self.endpoint = endpoint
+        self.protocol = protocol
+        self.socket = socket
         remote = endpoint.remote
-        super().__init__({"sockname": endpoint.name(), "peername": remote and endpoint.written(remote)})
-        self.closing, self.context = False, contextvars.copy_context()
+        super().__init__({"sockname": endpoint.name(), "peername": remote and endpoint.own_form(remote)})
+        self.closing = False
+        self.context = contextvars.copy_context()
         self.loop = self.host.net.loop
         endpoint.receiver = self
 
@@ -49,9 +53,10 @@ class Transport(asyncio.DatagramTransport):
         return super().get_extra_info(name, default)
 
     def sendto(self, data: Data, addr: Optional[Any] = None) -> None:
-        """Sends a datagram. As in asyncio, `error_received` gets the system's errors.
+        """Sends a datagram. As in asyncio, the protocol's `error_received` gets the system's errors.
 
-        OSError, TypeError and ValueError: as in asyncio.
+        OSError: the transport has no peer, and there is no address. TypeError: the data isn't bytes. ValueError: the address isn't
+        the peer's.
         """
         if not isinstance(data, (bytes, bytearray, memoryview)):
             raise TypeError(f"data has to be bytes, not {type(data).__name__}")
@@ -69,21 +74,23 @@ class Transport(asyncio.DatagramTransport):
         if fault is not None:
             self.protocol.error_received(fault)
 
-    def take(self, it: Datagram) -> None:
-        """Receives a datagram."""
+    def take(self, datagram: Datagram) -> None:
+        """Receives a datagram, which the protocol gets in the loop's next step."""
         loop = self.loop
-        loop._ready.append(Handle(self._give, (it,), loop, self.context))  # as loop.call_soon does
+        loop._ready.append(Handle(self._deliver, (datagram,), loop, self.context))  # the same as loop.call_soon, and faster
 
-    def _give(self, it: Datagram) -> None:
+    def _deliver(self, datagram: Datagram) -> None:
         if not self.closing:
-            endpoint = self.endpoint
-            self.protocol.datagram_received(it.data, it.source if endpoint.version == 4 else endpoint.written(it.source))  # type: ignore[arg-type]
+            source = datagram.source
+            if self.endpoint.version != 4:
+                source = self.endpoint.own_form(source)  # type: ignore[assignment]
+            self.protocol.datagram_received(datagram.data, source)
 
     def refuse(self, fault: OSError) -> None:
-        """Receives an error from a closed port."""
-        self.loop.call_soon(self._tell, fault, context=self.context)
+        """Receives an error from a closed port, which the protocol gets in the loop's next step."""
+        self.loop.call_soon(self._deliver_error, fault, context=self.context)
 
-    def _tell(self, fault: OSError) -> None:
+    def _deliver_error(self, fault: OSError) -> None:
         if not self.closing:
             self.protocol.error_received(fault)
 

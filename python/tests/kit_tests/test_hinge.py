@@ -268,7 +268,7 @@ class Try(WithFolder):
                 link = preset(name)
                 transfer = TRY.Download(self.folder / "history", (link.up, link.down))
                 transfer.run()
-                self.assertEqual(set(transfer.came), set(range(TRY.SEGMENTS)))
+                self.assertEqual(set(transfer.arrived), set(range(TRY.SEGMENTS)))
 
     def test_losses_halve_the_window_once(self) -> None:
         sender = TRY.Sender()

@@ -250,7 +250,7 @@ class Garbage(WithFolder):
             for place in (
                 "hinge.run.rooms.leave_the_system",
                 "hinge.net.begun.leave_the_system",
-                "hinge.commands.udp.what_is_carried",
+                "hinge.commands.udp.forward_datagrams",
             ):
                 stack.enter_context(mock.patch(place, side_effect=Began))
             stack.enter_context(mock.patch("signal.pthread_sigmask"))

@@ -21,8 +21,9 @@ import pytest
 from hinge.__main__ import COMMANDS
 from hinge.commands.docs import folder_of_pages
 from hinge.commands.run import options
-from hinge.foreign import WORDS, answer_of
+from hinge.foreign import answer_of
 from hinge.foreign_options import OF_LINK, OPTIONS
+from hinge.foreign_words import WORDS
 from hinge.run import hints as hints_of_run
 from hinge.run.hints import far_host, hints, lacking, link_as_command
 from hinge.run.plan_of_options import plan_of

@@ -244,7 +244,7 @@ class OfSearches(Simulated):
             while not (below := below_of(process.pid)):
                 time.sleep(0.05)
             process.send_signal(signal.SIGHUP)
-            process.communicate()
+            process.communicate(timeout=100)
         self.assertEqual((process.returncode, left(self.folder), running(below)), (-signal.SIGHUP, [], []))
 
     def test_none_that_fails(self) -> None:
