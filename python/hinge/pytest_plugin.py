@@ -1,4 +1,4 @@
-"""pytest fixtures: emulated links for tests in real and in simulated time, with a report when a test fails."""
+"""Provides pytest fixtures: emulated links for tests in real and in simulated time, with a report when a test fails."""
 
 from __future__ import annotations
 
@@ -29,13 +29,11 @@ MARKS = (
     "simulated(**options): the test runs in a simulated machine of its own, with options of `hinge run`, as server=COMMAND",
 )
 INSIDE = "HINGE_TEST_REPORTS"  # in a simulated machine: the file that the reports of its test go to
-
-
 MakeUdpPath = Callable[..., "UdpPath"]  # (server, there, back, preset=name, seed=number)
 
 
 def faults_file(path: str) -> str:
-    """Returns the path to a faults file. ArgumentTypeError: the file is missing, or a line is malformed."""
+    """Checks the faults in a file; returns the file's path. ArgumentTypeError: the file can't be read, or a line is malformed."""
     from hinge.fault_lines import read_faults
 
     try:
@@ -77,7 +75,8 @@ def link_seed(request: pytest.FixtureRequest) -> int:
 
 @pytest.fixture
 def emulated_links(request: pytest.FixtureRequest) -> Generator[list[Emulated], None, None]:
-    """Yields this test's links. An unlawful history is an error."""
+    """Yields the list in which this test's fixtures put their links; after the test, ends and audits the links. The test fails if a
+    history isn't lawful, an exception was never caught, or, in real time, a mark had no effect."""
     links: list[Emulated] = []
     request.node.stash[LINKS] = links
     yield links
@@ -85,9 +84,10 @@ def emulated_links(request: pytest.FixtureRequest) -> Generator[list[Emulated], 
         link.finish()
     unlawful = [link for link in links if not (link.verdict or "").startswith("lawful")]
     wrong = [f"the history {link.history} isn't lawful: {link.verdict}" for link in unlawful]
-    wrong += [f"nobody took an exception: {it}" for link in links for it in link.faults]
-    if request.node.stash.get(PASSED, False):  # of links in real time, since those of sim_net were judged with the test
-        wrong += [f"{UNMET} {line}" for link in links if not hasattr(link, "is_disturbed") for line in link.unmet()]
+    wrong += [f"nobody took an exception: {exception}" for link in links for exception in link.faults]
+    if request.node.stash.get(PASSED, False):  # judge_links judged the links of sim_net together with the test
+        links_in_real_time = [link for link in links if not hasattr(link, "is_disturbed")]
+        wrong += [f"{UNMET} {line}" for link in links_in_real_time for line in link.unmet()]
         if not links and "link" in own_words(request.node):
             wrong.append(f"{UNMET} the mark link: the test made no link")
     if wrong:
@@ -102,7 +102,8 @@ UNMET = "what met nothing:"
 
 @pytest.fixture
 def udp_path(request: pytest.FixtureRequest, emulated_links: list[Emulated], link_seed: int, tmp_path: Path) -> MakeUdpPath:
-    """Makes UDP paths in real time: `udp_path(server, there, back=there)`, of a port or HOST:PORT and the options of two links."""
+    """Returns a function that makes a UDP path in real time: `udp_path(server, there, back=there)`. The server is a local port or
+    HOST:PORT; `there` and `back` are the options of the links to and from the server, or otherwise the mark `link`'s."""
     from hinge.testing.emulated import UdpPath
     from hingetulip_words.presets import either_way
 
@@ -118,14 +119,15 @@ def udp_path(request: pytest.FixtureRequest, emulated_links: list[Emulated], lin
         if preset is not None:
             there, back = either_way(preset, there, back)
         elif there is None:
-            (there, back), own = link_of(request.node), own_words(request.node)
+            there, back = link_of(request.node)
+            own = own_words(request.node)
         address = f"127.0.0.1:{server}" if isinstance(server, int) else server
         history = f"link{len(emulated_links) + 1}.history"
-        ways = (there, there if back is None else back)
-        drawn = link_seed if seed is None else seed
-        product = UdpPath(address, *ways, drawn, tmp_path / history, own)
-        emulated_links.append(product)
-        return product
+        if back is None:
+            back = there
+        path = UdpPath(address, there, back, link_seed if seed is None else seed, tmp_path / history, own)
+        emulated_links.append(path)
+        return path
 
     return make
 
@@ -137,27 +139,30 @@ def sim_net(request: pytest.FixtureRequest, emulated_links: list[Emulated], link
     from hinge.testing.least import trial_of
     from hinge.testing.varied import VariedNetwork
 
-    history, item = tmp_path / "link.history", request.node
-    (there, back), trial = link_of(item), trial_of(item)
+    history = tmp_path / "link.history"
+    item = request.node
+    there, back = link_of(item)
+    trial = trial_of(item)
     seed = link_seed if trial.seed is None else trial.seed
-    product = VariedNetwork(trial.variation or vary_of(item), trial.faults, seed=seed, history=history, options=there, back=back)
-    if begins := str(item.config.getini("link_start")):
-        product.start = datetime.fromisoformat(begins).replace(tzinfo=timezone.utc).timestamp()
-    emulated_links.append(SimulatedPath(product, history, own_words(item)))
-    return product
+    network = VariedNetwork(trial.variation or vary_of(item), trial.faults, seed=seed, history=history, options=there, back=back)
+    start = str(item.config.getini("link_start"))
+    if start:
+        network.start = datetime.fromisoformat(start).replace(tzinfo=timezone.utc).timestamp()
+    emulated_links.append(SimulatedPath(network, history, own_words(item)))
+    return network
 
 
 @pytest.fixture
 def net(request: pytest.FixtureRequest, emulated_links: list[Emulated], link_seed: int, tmp_path: Path) -> Net:
     """Returns a net whose hosts run any programs, in real time, or in simulated time for tests with the mark `simulated`. Links
-    without words use the mark `link`."""
+    that the test makes without words have the words of the mark `link`."""
     from hinge.net import Net
     from hinge.testing.emulated import NetOfTest
 
     there, back = link_of(request.node)
-    product = Net(tmp_path / "net", seed=link_seed, link=there, back=back)
-    emulated_links.append(NetOfTest(product, own_words(request.node)))
-    return product
+    net_of_test = Net(tmp_path / "net", seed=link_seed, link=there, back=back)
+    emulated_links.append(NetOfTest(net_of_test, own_words(request.node)))
+    return net_of_test
 
 
 @pytest.fixture
@@ -167,7 +172,7 @@ def simulated_net(net: Net) -> Net:
 
 
 def in_simulated_time(test: Callable[..., Coroutine[object, object, None]]) -> Callable[..., None]:
-    """Returns a test that runs a coroutine in its network."""
+    """Returns a plain test that runs an asynchronous test in the network of the fixture sim_net."""
 
     @functools.wraps(test)
     def run(*words: object, sim_net: Network, **keywords: object) -> None:
@@ -178,7 +183,7 @@ def in_simulated_time(test: Callable[..., Coroutine[object, object, None]]) -> C
 
 @pytest.hookimpl(tryfirst=True)  # type: ignore[misc]
 def pytest_pycollect_makeitem(collector: pytest.Collector, name: str, obj: object) -> None:
-    """Collects coroutines with the fixture sim_net as plain tests in simulated time, so that no other plugin runs them."""
+    """Replaces an asynchronous test with sim_net by a plain test in simulated time, which no other plugin runs."""
     if not inspect.iscoroutinefunction(obj) or "sim_net" not in inspect.signature(obj).parameters:
         return
     is_test = getattr(collector, "istestfunction", None)  # of modules and classes
@@ -188,7 +193,8 @@ def pytest_pycollect_makeitem(collector: pytest.Collector, name: str, obj: objec
 
 @pytest.hookimpl(tryfirst=True)  # type: ignore[misc]
 def pytest_runtest_setup(item: pytest.Item) -> None:
-    """Refuses marks with wrong words and marks without effect, which would leave a test without its link."""
+    """Fails a test with a wrong word in its marks, and warns of marks without effect: either would leave the test without its
+    link."""
     fault = fault_of(item)
     if fault is not None:
         pytest.fail(fault, pytrace=False)
@@ -198,43 +204,51 @@ def pytest_runtest_setup(item: pytest.Item) -> None:
 
 @pytest.hookimpl(hookwrapper=True)  # type: ignore[misc]
 def pytest_runtest_makereport(item: pytest.Item, call: pytest.CallInfo[None]) -> Generator[None, pytest.TestReport, None]:
+    """Judges a test's links and real calls; adds them to the report."""
     outcome = yield
     report = outcome.get_result()
     links: list[Emulated] = item.stash.get(LINKS, [])
-    is_tried = TRIED in item.stash
-    own_links = [link for link in links if hasattr(link, "is_disturbed")]
-    if report.when == "call" and report.passed and not is_tried and (unmet := [line for it in own_links for line in it.unmet()]):
-        report.outcome, report.longrepr = "failed", "\n".join([UNMET, *unmet])
-    if report.when == "call" and report.passed and not is_tried:
-        for text in (text for link in own_links for text in link.idle()):
-            item.warn(pytest.PytestWarning(text))
     if report.when == "call":
+        judge_links(item, report, links)
         item.stash[PASSED] = report.passed
         report.user_properties += table.row_of(item, seed_of(item), links) + table.met_of(item, links)
     if report.when != "setup":
-        report.user_properties += (reals := table.reals())
-        report.sections += [("real", table.told(it["calls"])) for _, it in reals if report.passed]
-        refusals = [text for _, it in reals if (text := table.refused_reals(item, it["calls"]))]
-        if refusals and report.passed and not is_tried:
-            report.outcome, report.longrepr = "failed", refusals[0]
+        judge_real_calls(item, report)
     if report.when == "call" and report.failed and links:
         from hinge.border.terminal import lines
+        from hinge.testing.emulated import report_of_link
 
-        for link in links:
-            try:
-                link.finish()
-                text = link.report()
-            except Exception as fault:
-                from hinge.testing.emulated import no_report
-
-                text = no_report(fault)
-            report.sections.append(("emulated link", lines(text)))
+        report.sections += [("emulated link", lines(report_of_link(link))) for link in links]
     if report.when == "teardown" and links and not repeats(item):
         del item.stash[LINKS]  # else each test's network stays until the session ends
 
 
+def judge_links(item: pytest.Item, report: pytest.TestReport, links: list[Emulated]) -> None:
+    """Fails a passing test if a fault or a mark's word had no effect in simulated time; otherwise warns of idle parts."""
+    if not report.passed or TRIED in item.stash:
+        return
+    simulated_links = [link for link in links if hasattr(link, "is_disturbed")]
+    unmet = [line for link in simulated_links for line in link.unmet()]
+    if unmet:
+        report.outcome, report.longrepr = "failed", "\n".join([UNMET, *unmet])
+        return
+    for line in (line for link in simulated_links for line in link.idle()):
+        item.warn(pytest.PytestWarning(line))
+
+
+def judge_real_calls(item: pytest.Item, report: pytest.TestReport) -> None:
+    """Adds the real calls to the report, and fails a passing test if no mark allows them."""
+    for key, reals in table.reals():
+        report.user_properties.append((key, reals))
+        if report.passed:
+            report.sections.append(("real", table.told(reals["calls"])))
+        refusal = table.refused_reals(item, reals["calls"])
+        if refusal and report.passed and TRIED not in item.stash:
+            report.outcome, report.longrepr = "failed", refusal
+
+
 def repeats(item: pytest.Item) -> bool:
-    """Returns whether a test may run again in the same process."""
+    """Returns whether an option (--link-shrink, --link-search) may run a test again in the same process."""
     return any(item.config.getoption(option) for option in ("--link-shrink", "--link-search"))
 
 
@@ -245,7 +259,7 @@ def seed_of(item: pytest.Item) -> int:
 
 
 def links_of(item: pytest.Item) -> list[str]:
-    """Returns the options of the mark `link` for `hinge run`."""
+    """Returns the options of `hinge run` for the words in a test's mark `link`, such as --up and `20ms`."""
     there, back = link_of(item)
     ways = ("--up", there), ("--down", there if back is None else back)
     return [word for option, text in ways if text.strip() for word in (option, text)]
@@ -253,8 +267,8 @@ def links_of(item: pytest.Item) -> list[str]:
 
 @pytest.hookimpl(tryfirst=True)  # type: ignore[misc]
 def pytest_runtest_protocol(item: pytest.Item, nextitem: Optional[pytest.Item]) -> Optional[bool]:
-    """Runs a test with the mark or the net `simulated` in a separate machine; inside the machine, runs the test as usual. With
-    --link-shrink and --link-search, tests with sim_net run again with other faults."""
+    """Runs a test with the mark or the net `simulated` in a separate machine, and with --link-shrink or --link-search a test with
+    sim_net again with other faults. Returns None for other tests, which pytest runs."""
     mark = item.get_closest_marker("simulated")
     names = getattr(item, "fixturenames", ())
     if mark is None and "simulated_net" in names:
@@ -272,7 +286,7 @@ def pytest_runtest_protocol(item: pytest.Item, nextitem: Optional[pytest.Item]) 
 
 
 def reports_of(item: pytest.Item, nextitem: Optional[pytest.Item], mark: Optional[pytest.Mark]) -> list[pytest.TestReport]:
-    """Returns the reports on a test in a machine, or on a test that is shrunk when it fails."""
+    """Runs a test in the machine of its mark `simulated`, or again with other faults; returns the reports."""
     if mark is not None:
         from hinge.simulated.one_test import reports
 

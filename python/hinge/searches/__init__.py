@@ -1,1 +1,1 @@
-"""A search: a net by many seeds in simulated time, and the least faults, pauses and losses with which it fails."""
+"""Searches: many runs of a net or a link in simulated time, and the fewest faults, pauses and losses with which a run fails."""

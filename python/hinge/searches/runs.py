@@ -1,4 +1,4 @@
-"""The runs of a search. Each is a file in the search's folder, complete or missing, so that any job scheduler can make runs."""
+"""A search's runs. Each run is a file in the search's folder, complete or missing, so that any job scheduler can make runs."""
 
 from __future__ import annotations
 
@@ -20,11 +20,11 @@ from hinge.simulated.machine import NO_CORES, SIGNALLED, Machine
 from hinge.simulated.start import planned, reported
 
 NO_RUN = "no run of a search"
-OUTPUT = 10_000  # the last letters of what a run printed that are kept
+OUTPUT = 10_000  # the number of characters that are kept of a run's output, from the end
 REFUSED = 6
-WELL = "status 0"
+WELL = "status 0"  # the name of a run that ended well
 LOOK_EACH = 0.5  # s: the longest wait for a run, as Python handles a signal that comes just before a wait after the wait
-LONGEST = "86400s"  # of simulated time, after which a run goes on for ever, where --limit says nothing
+LONGEST = "86400s"  # the simulated time after which a run is ended without --limit
 
 
 class SearchSettings(NamedTuple):
@@ -42,8 +42,8 @@ class SearchSettings(NamedTuple):
 
 
 class RunFiles(NamedTuple):
-    """Settings for a run whose machine a search examines afterwards: extra lines for /proc/pauses, the processes that leave a core,
-    and the transcript's path."""
+    """Holds settings for a run whose machine a search examines afterwards: extra lines for /proc/pauses, the kind of processes that
+    leave a core, and the transcript's path."""
 
     more: "tuple[str, ...]" = ()  # as in Settings
     cores: str = NO_CORES
@@ -54,7 +54,7 @@ PLAIN = RunFiles()
 
 
 class SummarizedRun(NamedTuple):
-    """A run and its summary."""
+    """Holds a run's status, the end of the output, and the summary."""
 
     status: int
     output: str
@@ -62,7 +62,7 @@ class SummarizedRun(NamedTuple):
 
     @property
     def has_run(self) -> bool:
-        """Returns whether the program started. A run that ended earlier was refused by `hinge` itself."""
+        """Returns whether the program started. If a run ended earlier, `hinge` itself refused the run."""
         return isinstance(self.record.get("ended"), dict)
 
     @property
@@ -76,16 +76,19 @@ class SummarizedRun(NamedTuple):
         return self.has_run and not self.record.get("void") and self.name != WELL
 
     def remarks(self) -> "list[str]":
-        """Returns what a single run would warn of: servers that ended early beside a program that ended well, and no sure repetition."""
-        servers = {} if self.failed else {"the server": self.record.get("server"), **(self.record.get("hosts") or {})}
-        ends = [
-            f"{name} ended with {one['status']} by itself"
-            for name, one in servers.items()
-            if one and one["by"] == "itself" and one["status"]
-        ]
-        return [*ends, *(["a second run may differ"] if self.has_run and self.record.get("repeatable") is False else [])]
+        """Returns warnings about the run: commands that failed although the program ended well, and a repetition that may
+        differ."""
+        lines = list[str]()
+        commands = {"the server": self.record.get("server"), **(self.record.get("hosts") or {})}
+        for name, end in commands.items():
+            if end and end["by"] == "itself" and end["status"] and not self.failed:
+                lines.append(f"{name} ended with {end['status']} by itself")
+        if self.has_run and self.record.get("repeatable") is False:
+            lines.append("a second run may differ")
+        return lines
 
     def told(self) -> str:
+        """Returns the run's end and the last line of output."""
         void = "void: " if self.record.get("void") else ""
         return f"{void}{self.name or f'status {self.status}'}: {self.last_line()}".rstrip(": ")
 
@@ -94,7 +97,7 @@ class SummarizedRun(NamedTuple):
 
 
 def command_words(settings: SearchSettings, what: "Sequence[str]", seed: int, pauses: Optional[str]) -> "list[str]":
-    """Returns the command line that runs this net or these options."""
+    """Returns the command line that runs a net or `run` with its options (`what`), with this seed and these pauses."""
     options = ["--simulated", "--scratch", "--seed", str(seed)]
     options += ["--pauses", pauses] if pauses else []
     options += ["--limit", settings.limit] if settings.limit else []
@@ -102,24 +105,28 @@ def command_words(settings: SearchSettings, what: "Sequence[str]", seed: int, pa
     return [*what, *options, *(["--", *settings.command] if settings.command else [])]
 
 
-Look = Callable[[Machine], None]  # at one that is over, before its folder goes
+Look = Callable[[Machine], None]  # examines a machine after its run, before its folder is removed
 
 
 def simulated_options(words: "Sequence[str]") -> SimulatedOptions:
-    """Returns the options in a `hinge` command line."""
+    """Returns the options in a `hinge` command line, whose first word is `run` or `net`."""
     return run.command_line(words[1:]) if words[0] == "run" else net.command_line(words[1:])
 
 
 class Runner:
-    """Makes runs, each in a separate machine. No machine outlives the runner."""
+    """Makes runs, each in a separate machine, which is removed with the run's end."""
 
     def __init__(self, options: SearchSettings) -> None:
-        self.asked, self.kernel, self.running, self.is_over = options, usable_kernel(), set[Machine](), False
+        self.settings = options
+        self.kernel = usable_kernel()
+        self.running = set[Machine]()
+        self.is_over = False
 
     def run(
         self, what: "Sequence[str]", seed: int, pauses: Optional[str], watch: RunFiles = PLAIN, look: Optional[Look] = None
     ) -> SummarizedRun:
-        name, *words = command_words(self.asked, what, seed, pauses)
+        """Returns a new run. `look` is called with the machine after the run, before the machine's files are removed."""
+        name, *words = command_words(self.settings, what, seed, pauses)
         options = simulated_options([name, "--quiet", *words])
         options = options.but(limit=options.limit or LONGEST, transcript=watch.transcript)
         refuse_outside(options, False)
@@ -143,15 +150,16 @@ class Runner:
         return SummarizedRun(result.status, output[-OUTPUT:], result.record)
 
     def end(self) -> None:
-        """Ends the runs in progress, which then don't count."""
+        """Kills the machines of the runs in progress; the caller then ignores these runs."""
         self.is_over = True
         for machine in list(self.running):
             machine.end(SIGNALLED)
 
     def case(self, case: Case, watch: RunFiles = PLAIN, look: Optional[Look] = None) -> SummarizedRun:
-        if self.asked.net is None:
+        """Returns a new run with a case's lines, seed and pauses, like `run`."""
+        if self.settings.net is None:
             return self.run(["run", *case.options()], case.seed, case.pauses(), watch, look)
-        with file_beside(self.asked.net, case.net()) as file:
+        with file_beside(self.settings.net, case.net()) as file:
             return self.run(["net", str(file)], case.seed, case.pauses(), watch, look)
 
 
@@ -163,29 +171,32 @@ def completed(tasks: "set[Future[None]]") -> "Iterator[Future[None]]":
 
 
 class Runs:
-    """The folder of a search. The file run-SEED.json contains a seed's run."""
+    """Describes a search's folder. The file run-SEED.json contains a seed's run."""
 
     def __init__(self, folder: Path, runner: Runner) -> None:
-        self.folder, self.runner = folder, runner
+        self.folder = folder
+        self.runner = runner
         folder.mkdir(parents=True, exist_ok=True)
 
     def path(self, seed: int) -> Path:
         return self.folder / f"run-{seed}.json"
 
     def make(self, seed: int) -> None:
+        """Makes a seed's run and writes its file, unless the search is over. Fault: hinge refused the run."""
+        settings = self.runner.settings
         try:
-            ran = self.runner.run(self.runner.asked.what, seed, self.runner.asked.pauses)
+            run_of_seed = self.runner.run(settings.what, seed, settings.pauses)
         except Fault:
             if self.runner.is_over:
                 return
             raise
         if self.runner.is_over:
             return
-        if not ran.has_run:
-            why = ran.last_line().removeprefix(f"hinge {self.runner.asked.what[0]}: ") or f"status {ran.status}"
-            raise Fault(f"seed {seed}: {why}", ran.status or REFUSED)
+        if not run_of_seed.has_run:
+            reason = run_of_seed.last_line().removeprefix(f"hinge {settings.what[0]}: ") or f"status {run_of_seed.status}"
+            raise Fault(f"seed {seed}: {reason}", run_of_seed.status or REFUSED)
         try:
-            write_json(str(self.path(seed)), ran._asdict())
+            write_json(str(self.path(seed)), run_of_seed._asdict())
         except PermissionError:
             if not self.path(seed).exists():  # else another user made the same run meanwhile
                 raise
@@ -194,6 +205,7 @@ class Runs:
         return [seed for seed in seeds if self.path(seed).exists()]
 
     def of(self, seed: int) -> SummarizedRun:
+        """Reads a seed's run. Fault: the file doesn't contain a run."""
         record = read_object(self.path(seed), NO_RUN)
         try:
             return SummarizedRun(int(record["status"]), str(record["output"]), dict(record["record"]))
@@ -201,12 +213,12 @@ class Runs:
             raise Fault(f"{self.path(seed)}: {NO_RUN}", ROWS) from None
 
     def make_all(self, seeds: "list[int]", at_once: int) -> None:
-        """Makes the missing runs."""
-        todo = [seed for seed in seeds if not self.path(seed).exists()]
-        bar = Bar("runs", len(todo))
+        """Makes the missing runs of these seeds, `at_once` at a time."""
+        missing = [seed for seed in seeds if not self.path(seed).exists()]
+        bar = Bar("runs", len(missing))
         with ThreadPoolExecutor(at_once) as pool:
-            try:  # around what submits them, as the first run may have begun when a signal comes
-                for task in completed({pool.submit(self.make, seed) for seed in todo}):
+            try:  # the submissions are inside, since the first run may have begun when a signal comes
+                for task in completed({pool.submit(self.make, seed) for seed in missing}):
                     task.result()
                     bar.step()
             except BaseException:

@@ -1,5 +1,5 @@
-"""The file of a failure that a search found. `hinge run --like` and `hinge net --like` repeat it, here or on another machine. The
-file is the run's summary, with the command line and the net."""
+"""Reads the file of a failure that a search found. `hinge run --like` and `hinge net --like` repeat the failure, here or on another
+machine. The file contains the run's summary, the command line and the net."""
 
 from __future__ import annotations
 
@@ -15,12 +15,13 @@ if TYPE_CHECKING:
     from pathlib import Path
 
 LIKE = "--like"
-WORDS_KEY, NET_KEY = "words", "net"  # what the file has beside the summary
+WORDS_KEY, NET_KEY = "words", "net"  # the file's entries that a summary lacks
 TRIES = 100  # to share a file that another run is writing or removing
 
 
 def shared(file: Path, data: bytes) -> BinaryIO:
-    """Returns the file with these bytes, locked together with other runs of the text. Fault: another file has the name."""
+    """Creates a file with these bytes, or opens the file if another run created the same; returns the file under a shared lock.
+    Fault: a file with other bytes uses the name."""
     for _ in range(TRIES):
         try:
             with file.open("xb") as new:
@@ -47,8 +48,9 @@ def shared(file: Path, data: bytes) -> BinaryIO:
 
 @contextmanager
 def file_beside(path: Path, text: str) -> Iterator[Path]:
-    """Writes a net into another file's folder, which its commands know; the name depends only on the text. Runs with the same text
-    share the file, even a file left by a killed run, and the last run removes it. Fault: another file has the name."""
+    """Yields a file with a net's text in the folder of `path`, on which the net's commands may depend. The file's name depends only
+    on the text. Runs with the same text share the file, even a file left by a killed run, and the last run removes the file. Fault:
+    a file with another text uses the name."""
     import hashlib  # which loads OpenSSL, and other runs need none of it
 
     data = text.encode("utf-8", "surrogateescape")
@@ -57,20 +59,22 @@ def file_beside(path: Path, text: str) -> Iterator[Path]:
         try:
             yield file
         finally:
-            with suppress(OSError):  # another run has it still
+            with suppress(OSError):  # another run still uses the file
                 fcntl.flock(held, fcntl.LOCK_EX | fcntl.LOCK_NB)
                 file.unlink()
 
 
 def like_file(words: "list[str]") -> Optional[str]:
-    """Returns the file for --like, if among the options."""
-    front = words[: words.index("--")] if "--" in words else words
-    values = [word.partition("=")[2] for word in front if word.startswith(f"{LIKE}=")]
-    return next((value for word, value in zip(front, front[1:]) if word == LIKE), values[0] if values else None)
+    """Returns the value of the option --like, if given. Words after `--` are a command's, and don't count."""
+    options = words[: words.index("--")] if "--" in words else words
+    separate_values = [value for word, value in zip(options, options[1:]) if word == LIKE]
+    values = [word.partition("=")[2] for word in options if word.startswith(f"{LIKE}=")]
+    return next(iter([*separate_values, *values]), None)
 
 
 def failure_in(words: "list[str]") -> "dict[str, Any]":
-    """Returns the failure that these words repeat; an empty dict without --like, or for an ordinary summary."""
+    """Returns the contents of the failure's file that --like names. Returns an empty dict without --like, if the file can't be
+    read, or if the file is an ordinary summary."""
     path = like_file(words)
     if not path:
         return {}
@@ -79,13 +83,14 @@ def failure_in(words: "list[str]") -> "dict[str, Any]":
     try:
         record = read_object(path, "no summary")
     except (OSError, Fault):
-        return {}  # which is told where the file is compared
+        return {}  # the comparison with the file reports the error
     return record if isinstance(record.get(WORDS_KEY), list) else {}
 
 
 def failure_command(words: "list[str]", command: str) -> "list[str]":
-    """Returns a command line, with the failure's words in front. Fault: the line contains another command, or the failure is of
-    another `hinge` command."""
+    """Returns a command line that repeats the failure in the file that --like names: the file's options, the given words, then the
+    file's command. Without such a file, returns the given words unchanged. Fault: the given words contain another command after
+    `--`, or the failure is of another `hinge` command."""
     record = failure_in(words)
     if not record:
         return words
@@ -102,7 +107,8 @@ def failure_command(words: "list[str]", command: str) -> "list[str]":
 
 @contextmanager
 def repeated_net(words: "list[str]") -> "Iterator[list[str]]":
-    """Yields the same for `hinge net`. The net is in the file, and is written beside the file for the duration."""
+    """Yields the command line of `hinge net`, as failure_command returns it. The failure's file contains the net's text; meanwhile,
+    a separate file beside the failure's contains the text, too."""
     lines = failure_in(words).get(NET_KEY)
     result = failure_command(words, "net")
     if not isinstance(lines, list):

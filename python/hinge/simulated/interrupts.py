@@ -14,61 +14,67 @@ from typing import Iterator, NamedTuple, Optional
 from hinge.border.files import read_system
 
 LONG = 2.0  # s of processor time without a call of the kernel
-# A busy processor makes the same computation take several times as long, and may so reach what another run didn't.
+# On a busy processor the same computation lasts several times as long, and may be interrupted in another run.
 NEAR = LONG / 4
-PAUSE, SHORT = 0.1, 0.002  # s between looks
-OWN_WAITS = 2  # that an interrupt itself makes at most
+PAUSE = 0.1  # s between looks
+SHORT = 0.002  # s until the look after an interrupt
+OWN_WAITS = 2  # the most waits that an interrupt itself causes
 
 
 class Look(NamedTuple):
-    """A snapshot of a process. Each system call makes the process wait once."""
+    """Describes a process at a moment. Each system call makes the process wait once."""
 
-    waits: int
-    used: float  # s
+    waits: int  # the number of waits since the process's start
+    used: float  # s of processor time
     is_running: bool
     is_interrupted: bool = False
 
 
 def children(machine: int) -> list[int]:
+    """Returns the processes that a machine's kernel started; an empty list if the machine has ended."""
     try:
         return [int(word) for word in read_system(f"/proc/{machine}/task/{machine}/children").split()]
     except OSError:
         return []
 
 
-def looked(process: int) -> Optional[Look]:
+def look_at(process: int) -> Optional[Look]:
+    """Returns the present state of a process, if the process still exists."""
     try:
         fields = read_system(f"/proc/{process}/stat").rpartition(")")[2].split()
         lines = read_system(f"/proc/{process}/status").splitlines()
         waits = next(line for line in lines if line.startswith("voluntary_ctxt_switches"))
     except (OSError, StopIteration):
         return None
-    return Look(int(waits.split()[1]), (int(fields[11]) + int(fields[12])) / os.sysconf("SC_CLK_TCK"), fields[0] == "R")
+    used = (int(fields[11]) + int(fields[12])) / os.sysconf("SC_CLK_TCK")
+    return Look(int(waits.split()[1]), used, fields[0] == "R")
 
 
 class Interrupts:
     def __init__(self, machine: int) -> None:
-        """Interrupts the processes of the machine whose kernel is this process."""
+        """Prepares to interrupt the processes of a machine; `machine` is the process of the machine's kernel."""
         self.machine = machine
         self.count = 0
         self.last = dict[int, Look]()
-        self.longest = 0.0  # s of processor time that a process computed without a call, as far as it was seen
+        self.longest = 0.0  # the longest observed computation without a call, in s of processor time
 
     def looks(self) -> Iterator[tuple[int, Look]]:
         for process in children(self.machine):
-            look = looked(process)
+            look = look_at(process)
             if look:
                 yield process, look
 
     def is_long(self, before: Look, look: Look) -> bool:
-        """Returns whether a process has been computing for a long time, or still is since its interrupt."""
+        """Returns whether a process has computed for a long time since the state `before`, or continues to compute after an
+        interrupt."""
         if before.is_interrupted:
             return look.is_running and look.waits - before.waits <= OWN_WAITS
         return look.is_running and look.waits == before.waits and look.used - before.used >= LONG
 
     def look(self) -> float:
-        """Interrupts processes that have been computing for a long time; returns the seconds until the next look."""
-        pause, now = PAUSE, dict[int, Look]()
+        """Interrupts the processes that have computed for a long time; returns the seconds until the next look."""
+        pause = PAUSE
+        present = dict[int, Look]()
         for process, look in self.looks():
             before = self.last.get(process, look)
             if look.waits == before.waits:
@@ -77,8 +83,10 @@ class Interrupts:
                 os.kill(process, signal.SIGALRM)
                 self.count += 1
                 pause = SHORT
-                now[process] = look._replace(is_interrupted=True)
+                present[process] = look._replace(is_interrupted=True)
+            elif look.waits == before.waits and not before.is_interrupted:
+                present[process] = before  # the computation began there
             else:
-                now[process] = before if look.waits == before.waits and not before.is_interrupted else look
-        self.last = now
+                present[process] = look
+        self.last = present
         return pause

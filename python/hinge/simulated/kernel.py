@@ -1,4 +1,4 @@
-"""The kernel for simulated machines: ingredients and location."""
+"""The kernel for simulated machines: ingredients and folder."""
 
 from __future__ import annotations
 
@@ -26,7 +26,8 @@ BUILD_VERSION = {
 
 
 class Kernel(NamedTuple):
-    """A folder with a kernel, and the first process of its machines, which can be made anew without the kernel."""
+    """Describes a folder with a kernel and the program that is the first process in its machines. `hinge kernel` compiles a missing
+    program without building the kernel again."""
 
     folder: Path
 
@@ -40,7 +41,7 @@ class Kernel(NamedTuple):
 
     @property
     def checksum(self) -> str:
-        """Of the kernel: SHA-256, in hex."""
+        """Returns the kernel's SHA-256 checksum in hex, as the folder records it."""
         return (self.folder / "checksum").read_text(encoding="ascii").strip()
 
     @property
@@ -49,6 +50,7 @@ class Kernel(NamedTuple):
 
     @property
     def is_whole(self) -> bool:
+        """Returns whether the folder also contains this version's first process."""
         return self.is_built and self.init.is_file()
 
 
@@ -59,6 +61,7 @@ def cache() -> Path:
 
 
 def checksum_of(*paths: Path, begin: str = "") -> str:
+    """Returns the first digits of a SHA-256 checksum over the text `begin` and the files."""
     digest = hashlib.sha256(begin.encode())
     for path in paths:
         digest.update(path.read_bytes())
@@ -80,7 +83,8 @@ def version_numbers(folder: Path) -> list[int]:
 
 
 def current_kernels(*places: Path) -> Iterator[Kernel]:
-    """Yields the kernels with the current configuration and patch, the newest Linux of each place first."""
+    """Yields the built kernels with the current configuration and patch, in the order of the places; in a place, the newest Linux
+    first."""
     for place in places:
         for folder in sorted(place.glob(f"*-{checksum_of_inputs()}"), key=version_numbers, reverse=True):
             if Kernel(folder).is_built:
@@ -88,7 +92,8 @@ def current_kernels(*places: Path) -> Iterator[Kernel]:
 
 
 def usable_kernel() -> Kernel:
-    """Returns the kernel in the folder HINGE_KERNEL, or built with `hinge kernel`, or released. Missing: there is no kernel."""
+    """Returns the kernel in the folder that HINGE_KERNEL names, or else that `hinge kernel` built, or else the released kernel.
+    Missing: there is no such kernel."""
     path = os.environ.get("HINGE_KERNEL")
     if path:
         if not Kernel(Path(path)).is_whole:

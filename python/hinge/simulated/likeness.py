@@ -1,4 +1,4 @@
-"""The check whether a run got the same input as an earlier one, using the earlier summary."""
+"""Compares the input of a run with an earlier run's, by both summaries."""
 
 from __future__ import annotations
 
@@ -9,12 +9,12 @@ from hinge.command import Fault
 from hinge.run.words import Wrong
 from hinge.simulated.failures import WORDS_KEY
 
-GIVEN = ("kernel", "cpu", "processor", "at")  # beside what `given` has
-TIMES = ("simulated", "spun")  # what two equal runs have in common
+GIVEN = ("kernel", "cpu", "processor", "at")  # a summary's entries about inputs, apart from `given`
+TIMES = ("simulated", "spun")  # a summary's entries that equal runs have in common
 
 
 def earlier(path: str) -> "dict[str, Any]":
-    """Returns the summary of an earlier run in simulated time. Wrong: the file isn't one, or can't be read."""
+    """Returns the summary of an earlier run in simulated time. Wrong: the file can't be read, or isn't such a summary."""
     strange = "no summary of a run in simulated time, as --json writes it"
     try:
         record = read_object(path, strange)
@@ -27,43 +27,48 @@ def earlier(path: str) -> "dict[str, Any]":
     return record
 
 
-def what_differs(one: "dict[str, Any]", other: "dict[str, Any]") -> "list[str]":
-    """Returns the names of the inputs that differ."""
-    return [name for name in GIVEN if one.get(name) != other.get(name)] + [
-        name for name in one["given"] if one["given"][name] != other["given"].get(name)
-    ]
+def what_differs(before: "dict[str, Any]", present: "dict[str, Any]") -> "list[str]":
+    """Returns the names of the inputs in which two summaries differ."""
+    entries = [name for name in GIVEN if before.get(name) != present.get(name)]
+    checksums = [name for name, checksum in before["given"].items() if checksum != present["given"].get(name)]
+    return entries + checksums
 
 
-def of_files(before: "dict[str, Any]", present: "dict[str, Any]") -> str:
-    """Tells the first file that differs, in the order in which the earlier run opened them, followed by the other run's. What a run
-    changed has no checksum of what the run read."""
-    one, other = before.get("files"), present["files"]
-    if not isinstance(one, dict):
+def why_different(path: str, before: "dict[str, Any]", present: "dict[str, Any]") -> str:
+    """Returns a word on the way in which a file differs between two summaries."""
+    if path in before["files"] and path in present["files"]:
+        return "other"
+    if path in before.get("absent", ()):
+        return "new:"
+    return "gone:" if path in present["absent"] else "not read by both:"
+
+
+def files_text(before: "dict[str, Any]", present: "dict[str, Any]") -> str:
+    """Returns a text about the first file in which two summaries differ, in the order in which the earlier run opened the files,
+    and then the present run. A file that a run changed counts last, since its earlier checksum is unknown."""
+    earlier_files = before.get("files")
+    files = present["files"]
+    if not isinstance(earlier_files, dict):
         return ""
-    unsure = [name for name in {**one, **other} if [] in (one.get(name), other.get(name))]
-    names = [name for name in {**one, **other} if one.get(name) != other.get(name) and name not in unsure]
-    first, *more = [*names, *unsure] or [""]
+    paths = {**earlier_files, **files}
+    changed_paths = [path for path in paths if [] in (earlier_files.get(path), files.get(path))]
+    different = [path for path in paths if earlier_files.get(path) != files.get(path) and path not in changed_paths]
+    first, *more = [*different, *changed_paths] or [""]
     others = f" and {len(more)} more files" if more else ""
-    if not names:
-        return f"; the same {len(one) - len(unsure)} files" + (f", beside {first}{others} that a run changed" if unsure else "")
-    why = (
-        "other"
-        if first in one and first in other
-        else "new:"
-        if first in before.get("absent", ())
-        else "gone:"
-        if first in present["absent"]
-        else "not read by both:"
-    )
-    return f"; {why} {first}{others}"
+    if different:
+        return f"; {why_different(first, before, present)} {first}{others}"
+    same = f"; the same {len(earlier_files) - len(changed_paths)} files"
+    return f"{same}, beside {first}{others} that a run changed" if changed_paths else same
 
 
 def remarks(path: str, before: "dict[str, Any]", present: "dict[str, Any]") -> Iterator[str]:
+    """Yields remarks that compare the present summary with the earlier one, which is the file at `path`."""
     differing = what_differs(before, present)
     text = f"other {', '.join(differing)}" if differing else "the same words, environment, folder, input and kernel"
     if WORDS_KEY in before and isinstance(before.get("ended"), dict):
         end = present.get("ended", {}).get("name", "no end of its own")
-        same = end == before["ended"]["name"]
-        yield f"--like {path}: it ends by {end}, {'as then' if same else 'and then by ' + str(before['ended']['name'])}"
-    took = "the same" if all(before.get(name) == present[name] for name in TIMES) else "not the same"
-    yield f"--like {path}: {text}{of_files(before, present)}; the simulated time is {took}"
+        earlier_end = before["ended"]["name"]
+        comparison = "as then" if end == earlier_end else f"and then by {earlier_end}"
+        yield f"--like {path}: it ends by {end}, {comparison}"
+    time = "the same" if all(before.get(name) == present[name] for name in TIMES) else "not the same"
+    yield f"--like {path}: {text}{files_text(before, present)}; the simulated time is {time}"

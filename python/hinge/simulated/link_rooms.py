@@ -1,4 +1,5 @@
-"""A run's rooms in a simulated machine, whose first process makes them from a plan of texts, and that process's messages."""
+"""The rooms (network namespaces) of a run in a simulated machine. The machine's first process creates them from texts, and writes
+messages."""
 
 from __future__ import annotations
 
@@ -19,13 +20,13 @@ from hinge.run.words import duration
 from hinge.simulated.job import root_of
 from hinge.simulated.verdict import MachineVerdict, of_wait
 
-LINK = "/run/hinge/link"  # a copy in the machine's folder, whose name is the same wherever hinge is installed
+LINK = "/run/hinge/link"  # a copy of the link's program, whose path doesn't depend on hinge's installation
 TERMINATED = SIGNALLED + 15
 Tell = Callable[[str], None]
 
 
 class KeptPage(NamedTuple):
-    """The page of counts after a run."""
+    """Holds the page on which the link's program counted packets, after the run."""
 
     bytes_: bytes
 
@@ -38,12 +39,13 @@ def page_of(folder: Path) -> KeptPage:
 
 
 def counts_of(folder: Path, network: int) -> str:
-    """Returns the common beginning of the file names with the system's counts in a network."""
+    """Returns the common beginning of the file names with a network's system counters."""
     return f"{folder}/net-{network}-"
 
 
 def rooms_texts(kind: str, steps: Steps, interfaces: Iterable[int], plan: str, links: int) -> "list[str]":
-    """Returns a machine's instructions before a program begins; the page of counts is for that many links."""
+    """Returns the texts with which a machine's first process creates the rooms and starts the link's program. `kind` is `run` or
+    `net`, `plan` tells the link's program what to emulate, and `links` determines the length of the page of counts."""
     return [kind, *steps.texts, "end", " ".join(map(str, interfaces)), LINK, plan, str(size_of_page(2 * links))]
 
 
@@ -52,7 +54,7 @@ def nanoseconds(seconds: float) -> str:
 
 
 def first_process_lines(folder: Path) -> "list[str]":
-    """Returns the first process's lines, or an empty list if there was no program to report."""
+    """Returns the first process's messages; an empty list if the process started no program."""
     try:
         return (folder / "ran").read_text().splitlines()
     except OSError:
@@ -60,25 +62,26 @@ def first_process_lines(folder: Path) -> "list[str]":
 
 
 class LinkRun(NamedTuple):
-    """A run of `hinge run` without Python inside."""
+    """Describes a run of `hinge run` in a machine without Python."""
 
     options: RunOptions
     order: Order
 
     def texts(self) -> "list[str]":
-        """Returns what the machine's first process reads."""
+        """Returns the texts that the machine's first process reads: the rooms, the link and the server."""
         with Steps(root_of(self.options) or "") as steps:
             rooms = Rooms(self.options.mtu, False, ends_of(self.options.net))
         texts = rooms_texts("run", steps, rooms.interfaces, self.order.plan, 1)
         return [*texts, self.options.server or "", *map(nanoseconds, (self.order.server_wait, self.order.server_end))]
 
     def ended(self, folder: Path) -> Optional[MachineVerdict]:
-        """Returns how the program ended, or None if it didn't end."""
+        """Returns the program's verdict, if the program ended by itself."""
         words = "".join(first_process_lines(folder)).split()
-        return of_wait(int(words[1])) if words and int(words[0]) else None
+        has_ended = bool(words) and int(words[0]) != 0
+        return of_wait(int(words[1])) if has_ended else None
 
     def report(self, folder: Path, summary: Path, verdict: Optional[MachineVerdict], tell: Tell) -> int:
-        """Tells how the links went, and writes the summary; the status."""
+        """Reports on the links, writes the summary to a file, and returns the run's status."""
         _, _, by, server, after = "".join(first_process_lines(folder)).split()
         endings = None if by == "none" else Ended(of_wait(int(server)).status, round(int(after) / 1e9, 3), by)
         drops = [all_dropped(counts_of(folder, network)).get(NAME, 0) for network in (0, 1)]
@@ -87,7 +90,7 @@ class LinkRun(NamedTuple):
 
 
 def link_run(options: RunOptions, seed: int, transcript: Optional[str]) -> LinkRun:
-    """Returns the link's orders in a machine, which are read before the machine starts."""
+    """Converts the options of `hinge run` into a run in a machine."""
     plan = plan_of(options, options.mtu)
     text = plan.text(seed, transcript, True, options.most, True)
     wait = duration(options.server_wait, "--server-wait") / 1e9

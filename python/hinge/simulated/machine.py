@@ -1,4 +1,4 @@
-"""A simulated machine: a User-Mode Linux whose time travels, with one job."""
+"""A simulated machine: a User-Mode Linux that runs one job, and whose clock skips the times in which all processes wait."""
 
 from __future__ import annotations
 
@@ -25,41 +25,44 @@ from hinge.simulated.stood import Stood, make_place, stood
 from hinge.simulated.streams import MOST_AHEAD, Copier
 
 BOOTED = 1000  # s of uptime with which a job begins
-LOG_LINES = 3
-TIMED_OUT = 124  # as that of timeout(1)
-SIGNALLED = 128
-NO_LIFE, OVER = signal.SIGUSR1, signal.SIGALRM  # why a machine ends its job: nothing of it will ever wake, or its time is over
-LIBRARIES, LIBRARIES_SIZE = "/etc/ld.so.cache", 1 << 20
-NO_CORES, OF_DEADLOCK, ALL_CORES = "none", "deadlock", "all"  # cores that the launcher looks at
+LOG_LINES = 3  # the last lines of the kernel's log that an error contains
+TIMED_OUT = 124  # the status of a run that --real-limit ended, like that of timeout(1)
+SIGNALLED = 128  # with a signal's number, the status of a run that the signal ended
+NO_LIFE = signal.SIGUSR1  # a machine ends its job with this signal if no process can wake any more
+OVER = signal.SIGALRM  # a machine ends its job with this signal at --limit
+LIBRARIES = "/etc/ld.so.cache"
+LIBRARIES_SIZE = 1 << 20
+NO_CORES, OF_DEADLOCK, ALL_CORES = "none", "deadlock", "all"  # which processes leave a core for the launcher
 
 
 class Settings(NamedTuple):
-    """The properties of a machine."""
+    """Holds the properties of a machine."""
 
     seed: int
-    at: int  # s since 1970, with which the job begins
+    at: int  # the clock at the job's begin, in s since 1970
     memory: int  # bytes
     cpu: str
-    scratch: bool  # whether what is written in it is thrown away
-    pauses: Optional[Pauses] = None  # of its processes
-    limit: int = 0  # ns of simulated time, or 0
-    root: Optional[str] = None  # a folder that is the machine's root, of which nothing is written
+    scratch: bool  # whether the machine throws away all written files
+    pauses: Optional[Pauses] = None  # the pauses of the machine's processes
+    limit: int = 0  # ns of simulated time; 0 means no limit
+    root: Optional[str] = None  # a folder that is the machine's root, and isn't written to
     more: "tuple[str, ...]" = ()  # lines for /proc/pauses: `keep CALLS`, and `core CALL`
-    cores: str = NO_CORES  # which processes leave a core for the launcher
+    cores: str = NO_CORES  # the kind of processes that leave a core
 
 
 class MachineEnded(NamedTuple):
-    """How a job ended, in ns of simulated time."""
+    """Describes how a job ended; times are in ns of simulated time."""
 
     status: int
-    simulated: int
-    spun: int
-    waited: int = 0  # the status as wait(2) tells it
-    cut: int = 0  # the signal by which the machine ended it: NO_LIFE, OVER or 0
+    simulated: int  # the job's length
+    spun: int  # the part of it that spinning processes got
+    waited: int = 0  # the status of wait(2)
+    cut: int = 0  # the signal with which the machine ended the job: NO_LIFE, OVER or 0
 
 
 def kernel_words(kernel: Kernel, settings: Settings) -> list[str]:
-    """Returns the kernel's command line. The kernel's random numbers depend on these words, so they contain no folder."""
+    """Returns the kernel's command line. The kernel's random numbers depend on these words, so the machine's folder isn't among
+    them."""
     return [
         str(kernel.linux),
         f"mem={settings.memory >> 20}M",
@@ -73,7 +76,7 @@ def kernel_words(kernel: Kernel, settings: Settings) -> list[str]:
 
 
 def put_loader(folder: Path) -> None:
-    """Copies this system's dynamic loader and C library, with which the link's host can start in any root."""
+    """Copies this system's dynamic loader and C library into a folder, so that the link's program can start with any root."""
     paths = {line.split()[-1] for line in read_system("/proc/self/maps").splitlines()}
     for path in map(Path, paths):
         if path.name.startswith(("ld-linux", "libc.so")):
@@ -81,8 +84,8 @@ def put_loader(folder: Path) -> None:
 
 
 def put_libraries(path: Path, root: str) -> None:
-    """Writes the dynamic loader's cache, padded with zeros to a fixed size. Each program maps the cache, so a different size would
-    move all later mappings, and installing an unrelated package would change the run."""
+    """Copies a root's cache of the dynamic loader, padded with zeros to a multiple of LIBRARIES_SIZE. Each program maps the cache,
+    so another size would move all later mappings, and installing an unrelated package would change the run."""
     with suppress(OSError):
         shutil.copyfile(f"{root}{LIBRARIES}", path)
         size = path.stat().st_size
@@ -90,12 +93,14 @@ def put_libraries(path: Path, root: str) -> None:
 
 
 class Machine:
-    """A machine that runs from when this is made, and leaves nothing after `remove`."""
+    """Describes a machine, which runs from this object's creation on, until `remove` removes the machine and its files."""
 
     def __init__(self, kernel: Kernel, settings: Settings, job: Job, place: Optional[str] = None) -> None:
-        """Creates a machine; `place` is a permanent folder for the job's files."""
-        if few := too_few():
-            raise Missing(few)
+        """Starts a machine. The caller's folder `place`, if given, keeps the job's files after `remove`. Missing: a limit of this
+        process is too low, or no folder can hold the machine's memory."""
+        fault = too_few()
+        if fault:
+            raise Missing(fault)
         self.room = Room(settings.memory, place)
         self.job = job
         self.root = settings.root
@@ -111,16 +116,19 @@ class Machine:
         self.interrupts = Interrupts(self.process.pid)
         self.copiers = list[Copier]()
         self.is_held = False
-        self.cut: Optional[int] = None  # the status of a run that was ended from outside
+        self.cut: Optional[int] = None  # the run's status if `end` killed the machine
 
     @property
     def folder(self) -> Path:
         return self.room.folder
 
     def furnish(self, kernel: Kernel, settings: Settings) -> None:
-        """Writes the files for init. Init's file is new in each run, since its age could show in the run."""
+        """Writes the files for the machine's first process (init). Init's program is a new copy in each run, since a file's age
+        could influence the run."""
         pauses = "\n".join([*(settings.pauses.lines() if settings.pauses else ()), *settings.more])
-        kind = "own" if settings.root else "scratch" if settings.scratch else "files"
+        kind = "scratch" if settings.scratch else "files"
+        if settings.root:
+            kind = "own"
         (self.folder / "job").write_bytes(self.job.text(kind, pauses, str(settings.limit), settings.cores))
         if settings.root:
             (self.folder / "root").symlink_to(settings.root)
@@ -156,17 +164,21 @@ class Machine:
             return begun(words, stdin=NOTHING, stdout=log, stderr=SAME, start_new_session=True, **how)
 
     def copy_to(self, out: int, err: int, keeps: bool) -> None:
-        """Copies the job's output to descriptors while it runs."""
+        """Copies the job's output and errors to two descriptors while the job runs. If `keeps`, the machine's files keep the copied
+        parts."""
         self.copiers = [Copier(self.folder / "out", out, keeps)]
         if not self.job.is_one_stream:
             self.copiers.append(Copier(self.folder / "err", err, keeps))
 
     def hold_back(self) -> None:
-        """Pauses a machine that is far ahead of its output's reader. Its simulated time stops, too."""
+        """Stops a machine, and so its simulated time, while the machine is far ahead of its output's reader."""
         ahead = max((copier.ahead() for copier in self.copiers), default=0)
-        if self.is_held != (ahead > (MOST_AHEAD / 2 if self.is_held else MOST_AHEAD)):
-            self.is_held = not self.is_held
-            self.process.send_signal(signal.SIGSTOP if self.is_held else signal.SIGCONT)
+        if not self.is_held and ahead > MOST_AHEAD:
+            self.is_held = True
+            self.process.send_signal(signal.SIGSTOP)
+        elif self.is_held and ahead <= MOST_AHEAD / 2:
+            self.is_held = False
+            self.process.send_signal(signal.SIGCONT)
 
     def wait(self, limit: Optional[float] = None) -> None:
         """Waits for the machine's end. The machine is killed after `limit` seconds, or if its output loses the reader."""
@@ -186,7 +198,7 @@ class Machine:
             copier.finish()
 
     def lost(self) -> Optional[OSError]:
-        """Returns the error that prevented writing all output, if any."""
+        """Returns the error because of which output was lost, if any."""
         return next((copier.fault for copier in self.copiers if copier.fault), None)
 
     def real(self) -> float:
@@ -194,7 +206,7 @@ class Machine:
         return time.monotonic() - self.begun
 
     def end(self, status: int) -> None:
-        """Ends the machine immediately; safe in a signal handler."""
+        """Kills the machine, and records the status for the run. A signal handler may call this."""
         if self.process.returncode is None:
             self.cut = status
             os.killpg(self.process.pid, signal.SIGKILL)
@@ -205,27 +217,26 @@ class Machine:
         return not (self.folder / "unbegun").stat().st_size
 
     def ended(self) -> Optional[MachineEnded]:
-        """Returns the job's result, if the machine ended by itself."""
+        """Returns the job's result, unless the machine was killed or failed."""
         try:
             return MachineEnded(*map(int, (self.folder / "status").read_text().split()))
         except (OSError, TypeError, ValueError):
             return None
 
     def stood(self) -> Optional[Stood]:
-        """Returns the machine's state when it was killed, if any."""
+        """Returns the state in which the machine was killed, if the kernel reported a state."""
         return stood(self.folder, BOOTED * 10**9)
 
     def log(self) -> str:
         return (self.folder / "log").read_text(errors="replace")
 
     def fault(self) -> Missing:
-        """Returns an error for a machine that ended before its job, although no signal from outside killed the machine."""
+        """Returns the error and its cause for a machine that ended before its job, although nobody killed the machine."""
         report = self.folder / "fault"
-        text = (
-            report.read_text()
-            if report.exists()
-            else why(self.log(), self.memory) or "; ".join(self.log().splitlines()[-LOG_LINES:])
-        )
+        if report.exists():
+            text = report.read_text()
+        else:
+            text = why(self.log(), self.memory) or "; ".join(self.log().splitlines()[-LOG_LINES:])
         return Missing(f"the simulated machine ended by itself: {text.strip()}")
 
     @property
@@ -234,6 +245,7 @@ class Machine:
         return "can't trap cpuid" not in self.log()
 
     def remove(self) -> None:
+        """Kills the machine if necessary, and removes the folders."""
         self.end(SIGNALLED + signal.SIGKILL)
         self.process.wait()
         self.room.remove()

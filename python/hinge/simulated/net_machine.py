@@ -1,4 +1,4 @@
-"""A net in a simulated machine, whose first process makes the hosts from a plan of texts (net.c), and that process's messages."""
+"""A net in a simulated machine. The machine's first process creates the hosts from texts (net.c), and writes messages."""
 
 from __future__ import annotations
 
@@ -21,29 +21,32 @@ from hinge.simulated.verdict import ITSELF, MachineVerdict, of_wait
 
 
 class MachineMessages(NamedTuple):
-    """The first process's messages on a net."""
+    """Holds the messages of a machine's first process about a net."""
 
-    main: Optional[int]  # ns, at which the main command began
-    endings: "dict[str, Ended]"
-    verdicts: "dict[str, MachineVerdict]"  # how the commands ended
+    main: Optional[int]  # the main command's begin, in ns
+    endings: "dict[str, Ended]"  # the ends of the hosts' commands
+    verdicts: "dict[str, MachineVerdict]"  # the verdicts on the commands that ended by themselves
     missing: str  # the port without which the main command didn't begin
-    silent: "list[str]"
+    silent: "list[str]"  # a line for each port that didn't open
     acts: "list[FinishedAct]"
 
 
 class NetRun(NamedTuple):
-    """A run of `hinge net` without Python inside, as LinkRun."""
+    """Describes a run of `hinge net` in a machine without Python, as LinkRun does for `hinge run`."""
 
     order: NetOrder
 
     @property
     def rooms(self) -> "list[str]":
-        """Returns the hosts; the main host is the last."""
+        """Returns the names of the hosts; the main host is the last."""
         net = self.order.net
         return sorted(NetEnds(net).own, key=lambda name: name == net.main)
 
     def texts(self) -> "list[str]":
-        net, order, options = self.order.net, self.order, self.order.options
+        """Returns the texts that the machine's first process reads: the rooms, commands, waits for ports and acts."""
+        order = self.order
+        net = order.net
+        options = order.options
         with Steps(root_of(options) or "") as steps:
             rooms = NetRooms(net, options.mtu)
         plan = LinksPlan(order, rooms.ends, {}).text()
@@ -64,15 +67,14 @@ class NetRun(NamedTuple):
         return texts
 
     def messages(self, folder: Path) -> Optional[MachineMessages]:
-        """Returns the first process's messages, or None if the links ended at once."""
+        """Returns the first process's messages, if any."""
         rows = [line.split() for line in first_process_lines(folder)]
         if not rows:
             return None
-        main, net = int(rows[0][2]), self.order.net
-        hosts = [
-            (name, of_wait(int(status)), int(after), by)
-            for word, name, status, after, by in (row for row in rows if row[0] == "host")
-        ]
+        main = int(rows[0][2])
+        net = self.order.net
+        host_rows = [row for row in rows if row[0] == "host"]
+        hosts = [(name, of_wait(int(status)), int(after), by) for _, name, status, after, by in host_rows]
         waits = [(net.waits[int(row[1])], int(row[2])) for row in rows if row[0] == "silent"]
         lines = [silent(net, wait, None if status < 0 else status) for wait, status in waits]
         return MachineMessages(
@@ -85,7 +87,8 @@ class NetRun(NamedTuple):
         )
 
     def ended(self, folder: Path) -> Optional[MachineVerdict]:
-        """As the main command did, or where there is none as the first that didn't end well."""
+        """Returns the main command's verdict, if that command ended by itself; without a main command, the verdict on the first
+        command that failed."""
         result = self.messages(folder)
         if result is None:
             return None
@@ -93,17 +96,22 @@ class NetRun(NamedTuple):
             return MachineVerdict(ITSELF, status_without(result.missing))
         if self.order.net.main:
             return result.verdicts.get(self.order.net.main)
-        return next((one for one in result.verdicts.values() if one.status), MachineVerdict(ITSELF, 0))
+        failures = (verdict for verdict in result.verdicts.values() if verdict.status)
+        return next(failures, MachineVerdict(ITSELF, 0))
 
     def report(self, folder: Path, summary: Path, verdict: Optional[MachineVerdict], tell: Tell) -> int:
-        result, ends = self.messages(folder), NetEnds(self.order.net)
+        """Reports on the net, writes the summary to a file, and returns the run's status. ValueError: the first process wrote no
+        messages."""
+        ends = NetEnds(self.order.net)
+        result = self.messages(folder)
         if result is None:
             raise ValueError(folder)
         places = {name: counts_of(folder, place) for place, name in enumerate(ends.own, 1)}
         for line in result.silent:
             tell(line)
         drops = ends.drops({name: all_dropped(place) for name, place in places.items()})
-        rest = {name: some for name, place in places.items() if (some := unforwarded(place))}
+        counts_of_hosts = {name: unforwarded(place) for name, place in places.items()}
+        rest = {name: some for name, some in counts_of_hosts.items() if some}
         status = verdict.status if verdict else TERMINATED
         counts = page_of(folder).read()
         ran = NetRan(status, counts, drops, result.endings, rest, result.acts, result.main, result.missing)
@@ -111,7 +119,7 @@ class NetRun(NamedTuple):
 
 
 def net_run(options: NetOptions, seed: int, transcript: Optional[str]) -> Optional[NetRun]:
-    """Returns None if the net needs Python inside, for disks."""
+    """Converts the options of `hinge net` into a run in a machine; None if a host has disks, which need Python in the machine."""
     net = net_of(options)
     if any(host.disks for host in net.hosts.values()):
         return None

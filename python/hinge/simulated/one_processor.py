@@ -14,8 +14,8 @@ from contextlib import suppress
 from hinge.border.files import read_system
 from hinge.simulated.interrupts import children
 
-SPAN = 0.5  # s after which it looks whether it waited
-MOST_WAITED = 0.2  # of that time
+SPAN = 0.5  # s between two looks at the kernel's waiting time
+MOST_WAITED = 0.2  # the part of this time that a kernel may wait without a move
 choice = random.SystemRandom().choice
 
 
@@ -26,32 +26,36 @@ def waited(process: int) -> float:
 
 class OneProcessor:
     def __init__(self) -> None:
-        """Chooses one of this process's allowed processors; any processor if the system doesn't report waiting times."""
+        """Chooses one of this process's allowed processors, if the system reports waiting times."""
         self.allowed = sorted(os.sched_getaffinity(0)) if os.path.exists("/proc/self/schedstat") else []
         self.present = choice(self.allowed) if self.allowed else -1
-        self.seen, self.waited = time.monotonic(), 0.0
+        self.seen = time.monotonic()  # the moment of the last look
+        self.waited = 0.0  # the kernel's waiting time until then, in s
 
     def take(self, process: int = 0) -> None:
-        """Moves a process and its future children (0: the caller) to the processor, if the system permits that."""
+        """Moves a process (0: the caller) and its future children to the chosen processor, if there is one and the system permits
+        that."""
         with suppress(OSError):
             if self.allowed:
                 os.sched_setaffinity(process, {self.present})
 
-    def is_left(self, now: float, wait: float) -> bool:
-        """Returns whether the time since the last look was spent waiting, so that another processor should be chosen."""
+    def choose_again(self, now: float, wait: float) -> bool:
+        """Chooses another processor if the kernel waited for this one for a large part of the time since the last look. Returns
+        whether another was chosen."""
         if len(self.allowed) < 2 or now - self.seen < SPAN:
             return False
         share = (wait - self.waited) / (now - self.seen)
-        self.seen, self.waited = now, wait
+        self.seen = now
+        self.waited = wait
         if share <= MOST_WAITED:
             return False
         self.present = choice([processor for processor in self.allowed if processor != self.present])
         return True
 
     def look(self, kernel: int) -> None:
-        """Moves a machine to another processor if its kernel waited much. Ended machines are ignored."""
+        """Moves a machine to another processor if its kernel waited for long. Ignores a machine that has ended."""
         with suppress(OSError, IndexError):
-            if self.is_left(time.monotonic(), waited(kernel)):
-                self.take(kernel)  # first, since what it begins is where it is
+            if self.choose_again(time.monotonic(), waited(kernel)):
+                self.take(kernel)  # the kernel moves first, since its new children begin on its processor
                 for process in children(kernel):
                     self.take(process)

@@ -1,7 +1,6 @@
-"""A pytest test in a separate simulated machine, which runs the test again and returns the reports.
+"""Runs a pytest test in a separate simulated machine, where another pytest runs the test and returns the reports.
 
-Folders have fixed names there, since programs' memory contains them, and their real names in reports.
-"""
+Folders have fixed names in the machine, since programs' memory contains the names. The reports contain the real names."""
 
 from __future__ import annotations
 
@@ -29,15 +28,15 @@ OF_THE_LINK = re.compile(r"hinge run: (up|down): .*")
 
 
 class MachineResult(NamedTuple):
-    """The result from a test's machine: its status, its output, and the reports on the test's phases."""
+    """Holds the result of a test's machine: status, messages, and the reports on the test's phases."""
 
     status: int
-    told: str
+    messages: str
     reports: list[dict[str, Any]]
 
 
 class Keeper:
-    """Inside: writes the reports for the pytest that waits outside."""
+    """Writes the reports in the machine to a file for the pytest that waits outside."""
 
     def __init__(self, config: pytest.Config, path: str) -> None:
         self.config, self.path = config, path
@@ -49,18 +48,18 @@ class Keeper:
 
 
 def options_of_mark(mark: pytest.Mark) -> Iterator[str]:
-    """Yields the mark's options in the format of `hinge run`: real_limit="60s" becomes --real-limit 60s."""
+    """Yields the options of `hinge run` in a mark: real_limit="60s" becomes --real-limit 60s."""
     for name, value in mark.kwargs.items():
-        for one in value if isinstance(value, (list, tuple)) else [value]:
+        for word in value if isinstance(value, (list, tuple)) else [value]:
             yield f"--{name.replace('_', '-')}"
-            if one is not True:
-                yield str(one)
+            if word is not True:
+                yield str(word)
 
 
-def ran(item: pytest.Item, words: list[str], seed: int, folder: Path) -> MachineResult:
-    """Runs a test in a machine with these options; the folder contains the files that it wrote."""
-    part = folder / "kept"
-    part.mkdir()
+def run_in_machine(item: pytest.Item, words: list[str], seed: int, folder: Path) -> MachineResult:
+    """Runs a test in a machine with these options; returns the result. The test's files remain in the folder."""
+    kept_folder = folder / "kept"
+    kept_folder.mkdir()
     names = {**os.environ, INSIDE: f"{KEPT}/{REPORTS}", "PYTHONDONTWRITEBYTECODE": "1"}
     names.pop("PYTEST_CURRENT_TEST", None)
     config = ["-c", str(item.config.inipath)] if item.config.inipath else []
@@ -72,15 +71,16 @@ def ran(item: pytest.Item, words: list[str], seed: int, folder: Path) -> Machine
         f"--link-seed={seed}",
         item.nodeid,
     ]
-    outer = [*HINGE, "run", "--simulated", "--seed", str(seed), "--kept", str(part), *words]
-    has_net = "net" in getattr(item, "fixturenames", ())  # and creates hosts itself, so that its machine's link stays unused
+    outer = [*HINGE, "run", "--simulated", "--seed", str(seed), "--kept", str(kept_folder), *words]
+    has_net = "net" in getattr(item, "fixturenames", ())  # such a test creates hosts itself, and doesn't use its machine's link
     history = [] if has_net else ["--transcript", str(folder / HISTORY)]
     whole = [*outer, *history, "--", *inner]
-    how: dict[str, Any] = {"cwd": item.config.rootpath, "env": names, "stdin": NOTHING, "stdout": PIPE, "stderr": PIPE}
-    with begun(whole, text=True, errors="replace", **how) as process:
-        output = process.communicate()[1].strip()
-    text = (part / REPORTS).read_text().replace(f"{KEPT}/", f"{part}/") if (part / REPORTS).exists() else ""
-    return MachineResult(process.returncode, output, [json.loads(line) for line in text.splitlines()])
+    settings: dict[str, Any] = {"cwd": item.config.rootpath, "env": names, "stdin": NOTHING, "stdout": PIPE, "stderr": PIPE}
+    with begun(whole, text=True, errors="replace", **settings) as process:
+        messages = process.communicate()[1].strip()
+    path = kept_folder / REPORTS
+    text = path.read_text().replace(f"{KEPT}/", f"{kept_folder}/") if path.exists() else ""
+    return MachineResult(process.returncode, messages, [json.loads(line) for line in text.splitlines()])
 
 
 def report_from(config: pytest.Config, data: dict[str, Any]) -> pytest.TestReport:
@@ -92,27 +92,29 @@ def report_from(config: pytest.Config, data: dict[str, Any]) -> pytest.TestRepor
 
 
 def failed(item: pytest.Item, text: str) -> pytest.TestReport:
-    """Returns the report of a test that the machine didn't run."""
+    """Returns the report on a test that didn't end in its machine."""
     return pytest.TestReport(item.nodeid, item.location, {name: 1 for name in item.keywords}, "failed", text, "call")
 
 
-def of_the_link(text: str, seed: int, history: Path) -> str:
-    """Returns a report on the link, with advice for details; an empty text if no packet used the link."""
+def report_on_link(text: str, seed: int, history: Path) -> str:
+    """Returns the machine's messages, with the lost packets and advice for details if there is a history. Without a history, no
+    packet used the link, so messages about the link are left out."""
     if not history.exists():
         return "\n".join(line for line in text.splitlines() if not OF_THE_LINK.fullmatch(line))
     return "\n".join([text, *dropped_in_history(history), closing(seed, audited(history), history)])
 
 
 def reports(item: pytest.Item, mark: pytest.Mark, links: list[str], seed: int) -> list[pytest.TestReport]:
-    """Runs a test in a machine; returns its reports. A failed test's report describes the link, and the transcript remains."""
+    """Runs a test in a machine; returns its reports. A failed test's report describes the link, and the folder with the test's
+    files remains."""
     folder = Path(tempfile.mkdtemp(prefix="hinge-test-", dir=temporary_place()))
-    run = ran(item, [*links, *options_of_mark(mark)], seed, folder)
+    run = run_in_machine(item, [*links, *options_of_mark(mark)], seed, folder)
     result = [report_from(item.config, data) for data in run.reports]
     if all(report.when == "setup" and report.passed for report in result):
         result.append(failed(item, f"the simulated machine ended with {run.status} before the test had"))
-    wrong = [report for report in result if report.failed]
-    for report in wrong:
-        report.sections.append(("simulated run", lines(of_the_link(run.told, seed, folder / HISTORY))))
-    if not wrong or not any(path.is_file() for path in folder.rglob("*")):
+    failures = [report for report in result if report.failed]
+    for report in failures:
+        report.sections.append(("simulated run", lines(report_on_link(run.messages, seed, folder / HISTORY))))
+    if not failures or not any(path.is_file() for path in folder.rglob("*")):
         shutil.rmtree(folder, ignore_errors=True)
     return result

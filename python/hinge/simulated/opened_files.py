@@ -1,5 +1,5 @@
-"""The files that a run opened or failed to find, as reported by the machine's kernel, with lengths and checksums (for folders, the
-number of names). Another run can be compared with them."""
+"""The files that a run opened or failed to find, as the machine's kernel reports them, with lengths and checksums (of a folder, for
+its names). They are compared with another run's."""
 
 from __future__ import annotations
 
@@ -12,9 +12,9 @@ from typing import Any, Iterator, Optional
 from hinge.simulated.job import OWN_FOLDERS
 
 PIECE = 1 << 20
-OWN_ROOT = "//proc/self/cwd/root/"  # as the kernel names what is in the folder of --root
-ABSENT = "-"  # before a name that was looked for in vain
-known: "dict[tuple[int, int, int, int], str]" = {}  # what many runs of one process read is summed once
+OWN_ROOT = "//proc/self/cwd/root/"  # the kernel's name for the folder of --root
+ABSENT = "-"  # before the name of a file that a program didn't find
+known: "dict[tuple[int, int, int, int], str]" = {}  # the checksums of files, since this process may launch many runs
 
 
 def sha256_of(path: "str | Path") -> str:
@@ -26,6 +26,7 @@ def sha256_of(path: "str | Path") -> str:
 
 
 def checksum(path: str, status: os.stat_result) -> str:
+    """Returns the first digits of a file's SHA-256 checksum; a file that didn't change since the last call isn't read again."""
     key = (status.st_dev, status.st_ino, status.st_size, status.st_mtime_ns)
     if key not in known:
         known[key] = sha256_of(path)[:16]
@@ -33,8 +34,8 @@ def checksum(path: str, status: os.stat_result) -> str:
 
 
 def file_record(path: str, start: int) -> "Optional[list[Any]]":
-    """Returns the length and checksum of a file, or the number and checksum of a folder's names, or an empty list if the file or folder
-    was changed after the moment `start`, in ns of the system's files; None if neither exists any more."""
+    """Returns a file's length and checksum, or the number and checksum of a folder's names. Returns an empty list if the file or
+    folder changed after the moment `start` (in ns, by the system's clock for files); None if reading fails."""
     try:
         status = os.stat(path)
         if status.st_ctime_ns > start:
@@ -48,8 +49,8 @@ def file_record(path: str, start: int) -> "Optional[list[Any]]":
 
 
 def paths_told(folder: Path, root: Optional[str]) -> "Iterator[tuple[str, bool]]":
-    """Yields the paths that the machine's kernel reported, and whether each existed. The machine's files are left out; with a root,
-    only files below that root count, with their paths in the machine."""
+    """Yields the paths that the machine's kernel reported, and whether each path existed. Omits the machine's own files; with a
+    root, all files outside the root, too. Paths are as programs in the machine see them."""
     begin = "/" if root is None else OWN_ROOT
     for text in (folder / "opened").read_bytes().split(b"\0"):
         path = os.fsdecode(text).removeprefix(ABSENT)
@@ -59,7 +60,7 @@ def paths_told(folder: Path, root: Optional[str]) -> "Iterator[tuple[str, bool]]
 
 
 def portable_name(path: str) -> str:
-    """Returns the path as another user's run in another folder would name the file: `./` for the present folder, `~/` for HOME."""
+    """Returns a path in the form that is the same for other users and folders: `./` is the current folder, and `~/` is HOME."""
     for place, begin in ((os.getcwd(), "./"), (os.environ.get("HOME", ""), "~/")):
         if len(place) > 1 and path.startswith(f"{place}/"):
             return begin + path[len(place) + 1 :]
@@ -67,7 +68,8 @@ def portable_name(path: str) -> str:
 
 
 def files_record(folder: Path, root: Optional[str] = None) -> "dict[str, Any]":
-    """Returns the summary's `files`, in the order of opening, and `absent`."""
+    """Returns two entries of the summary: `files`, with a record of each file in the order of opening, and `absent`, with the paths
+    that didn't exist."""
     paths = dict.fromkeys(paths_told(folder, root))
     start = os.stat(folder / "job").st_ctime_ns
     records = ((path, file_record(f"{root or ''}{path}", start)) for path, is_there in paths if is_there)

@@ -15,15 +15,17 @@ Record = dict[str, Any]
 
 
 class RunOutcome(NamedTuple):
+    """Describes a run after its end: its length, and everything on which a repetition depends."""
+
     ended: MachineEnded
-    real: float  # s
+    real: float  # the run's real length in s
     interrupts: int
-    longest: float  # s that a process computed without a call of the system
+    longest: float  # the longest computation of a process without a system call, in s
     hides_the_processor: bool
     settings: Settings
-    given: "dict[str, str]"  # checksums of what the programs had in memory
+    given: "dict[str, str]"  # checksums of the data in the programs' memory
     pauses: Optional[PausesMade]
-    random: "list[str]"  # programs that ask the processor itself
+    random: "list[str]"  # texts on programs that ask the processor directly
 
     @classmethod
     def of(cls, machine: Machine, endings: MachineEnded, settings: Settings) -> RunOutcome:
@@ -36,7 +38,7 @@ class RunOutcome(NamedTuple):
         return cls(endings, real, interrupts.count, interrupts.longest, hides, settings, given, pauses, random)
 
     def differences(self) -> Iterator[str]:
-        """Why a second run may differ."""
+        """Yields the reasons why a second run may differ."""
         if self.interrupts:
             yield f"a process computed for {LONG:g} s without a call of the system, until {self.interrupts} interrupts"
         elif self.longest >= NEAR:
@@ -51,33 +53,34 @@ class RunOutcome(NamedTuple):
         yield from self.random[:1]
 
     def line(self) -> str:
-        why = "; ".join(self.differences())
-        second = f"a second run by seed {self.settings.seed} {f'may differ: {why}' if why else 'will be the same'}"
+        differences = "; ".join(self.differences())
+        repetition = f"may differ: {differences}" if differences else "will be the same"
+        second = f"a second run by seed {self.settings.seed} {repetition}"
         text = f"{self.ended.spun / 1e6:.3f} ms of it given to processes that spin"
         return f"simulated {self.ended.simulated / 1e9:.6f} s in {self.real:.2f} s, {text}; {second}"
 
     def lines(self) -> Iterator[str]:
-        """Yields the report as text."""
+        """Yields the lines of the report: the pauses (each, if there are few), then the length."""
         if self.pauses and self.settings.pauses:
-            text = self.pauses
+            pauses = self.pauses
             yield (
-                f"pauses {self.settings.pauses.asked}: {text.amount} in {text.calls:,} calls, "
-                f"{text.time / 1e9:.6f} s of simulated time in all"
+                f"pauses {self.settings.pauses.asked}: {pauses.amount} in {pauses.calls:,} calls, "
+                f"{pauses.time / 1e9:.6f} s of simulated time in all"
             )
-            for one in text.first if text.amount <= SHOWN else []:
-                yield one.text()
+            for pause in pauses.first if pauses.amount <= SHOWN else []:
+                yield pause.text()
         yield self.line()
 
     def pauses_record(self) -> "dict[str, Any]":
         if not (self.pauses and self.settings.pauses):
             return {}
         asked = self.settings.pauses
-        first = [one._asdict() for one in self.pauses.first]
+        first = [pause._asdict() for pause in self.pauses.first]
         counts = {"calls": self.pauses.calls, "count": self.pauses.amount, "time": self.pauses.time / 1e9}
         return {"pauses": {"asked": asked.asked, **counts, "first": first}}
 
     def record(self, kernel: Kernel) -> Record:
-        """Returns the record for JSON, with times in seconds."""
+        """Returns the outcome's entries in the summary, with times in seconds."""
         return {
             "simulated": self.ended.simulated / 1e9,
             "real": round(self.real, 3),
@@ -95,6 +98,6 @@ class RunOutcome(NamedTuple):
 
 
 def processor() -> str:
-    """Returns the model of this system's processor."""
+    """Returns the model name of this system's processor."""
     lines = read_system("/proc/cpuinfo").splitlines()
     return next((line.partition(":")[2].strip() for line in lines if line.startswith("model name")), "")

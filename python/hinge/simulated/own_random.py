@@ -1,6 +1,6 @@
-"""Programs that question the processor directly for values that no seed draws. Such code contains the instruction for random
-numbers but doesn't ask whether the processor offers it, as with the compiler's -march=native; code that asks learns that the
-processor doesn't. For the processor's number such code contains `lsl`."""
+"""Finds programs that ask the processor directly for values that no seed draws. Such a program contains the instruction for random
+numbers, but doesn't ask whether the processor offers the instruction, for example if the compiler's option was -march=native. A
+program that asks learns that the processor doesn't. The instruction `lsl` reads the processor's number."""
 
 from __future__ import annotations
 
@@ -13,26 +13,28 @@ from typing import BinaryIO, Iterator, Optional
 
 from hinge.simulated.opened_files import paths_told
 
-# rdrand, rdseed and rdpid. Before a byte 0xff they are a part of a distance.
+# The instructions rdrand, rdseed and rdpid. If a byte 0xff follows, the bytes are part of a distance.
 RANDOM = re.compile(rb"\x0f\xc7[\xf0-\xff][^\xff]")
 CPUID = b"\x0f\xa2"
-# lsl of the segment whose limit has the number, behind the number of that segment.
+# The instruction lsl, after the number of the segment whose limit contains the processor's number.
 NUMBER = re.compile(rb"\x7b\0\0\0.{0,12}?\x0f\x03[\xc0-\xff]", re.DOTALL)
-OF_RANDOM, OF_NUMBER = (
-    "random numbers from the processor (rdrand) without asking whether it has them",
-    "the number of its processor (lsl)",
-)
-PART, AGAIN = 1 << 20, 18  # bytes that are looked at together, and those of them that are again at the front of the next
-LOADED, EXECUTABLE = 1, 1  # of a segment, its type and flag
-ELF = b"\x7fELF\x02"  # at the front of a program of 64 bits
-HEAD, SEGMENT = struct.Struct("<5s27xQ14xHH"), struct.Struct("<IIQQQQQQ")
-known: "dict[tuple[int, int, int, int], str]" = {}  # what many runs of one process read is looked at once
+OF_RANDOM = "random numbers from the processor (rdrand) without asking whether it has them"
+OF_NUMBER = "the number of its processor (lsl)"
+PART = 1 << 20  # bytes of code that are searched together
+AGAIN = 18  # bytes at the end of a part that are also at the front of the next part
+LOADED, EXECUTABLE = 1, 1  # a segment's type and its flag
+ELF = b"\x7fELF\x02"  # the first bytes of a 64-bit program
+HEAD = struct.Struct("<5s27xQ14xHH")
+SEGMENT = struct.Struct("<IIQQQQQQ")
+known: "dict[tuple[int, int, int, int], str]" = {}  # the results for files, since this process may launch many runs
 
 
 def segments(file: BinaryIO) -> Iterator[tuple[int, int]]:
     """Yields the starts and lengths of a program's or library's executable segments."""
     head = file.read(HEAD.size)
-    mark, start, size, count = HEAD.unpack(head) if len(head) == HEAD.size else (b"", 0, 0, 0)
+    if len(head) < HEAD.size:
+        return
+    mark, start, size, count = HEAD.unpack(head)
     for place in range(count if mark == ELF else 0):
         file.seek(start + place * size)
         kind, flags, begin, _, _, length, _, _ = SEGMENT.unpack(file.read(SEGMENT.size))
@@ -52,18 +54,20 @@ def segment_parts(file: BinaryIO, begin: int, length: int) -> Iterator[bytes]:
 
 
 def taken_by(file: BinaryIO) -> str:
-    """Returns the direct processor uses in this file's code, or an empty text."""
-    draws, asks = False, False
-    for part in (part for begin, length in [*segments(file)] for part in segment_parts(file, begin, length)):
+    """Returns the value for which the code in a file asks the processor directly; otherwise an empty text."""
+    has_random = False
+    has_cpuid = False
+    places = list(segments(file))
+    for part in (part for begin, length in places for part in segment_parts(file, begin, length)):
         if NUMBER.search(part):
             return OF_NUMBER
-        asks = asks or CPUID in part
-        draws = draws or RANDOM.search(part) is not None
-    return OF_RANDOM if draws and not asks else ""
+        has_cpuid = has_cpuid or CPUID in part
+        has_random = has_random or RANDOM.search(part) is not None
+    return OF_RANDOM if has_random and not has_cpuid else ""
 
 
 def taken(path: str) -> str:
-    """Returns the direct processor uses in a program's file, or an empty text."""
+    """Returns the value for which the program at a path asks the processor directly; otherwise an empty text."""
     try:
         status = os.stat(path)
         key = (status.st_dev, status.st_ino, status.st_size, status.st_mtime_ns)
@@ -76,6 +80,7 @@ def taken(path: str) -> str:
 
 
 def random_programs(folder: Path, root: Optional[str]) -> "list[str]":
-    """Those that the machine in this folder read, each as `PATH takes ..`."""
-    names = dict.fromkeys(name for name, is_there in paths_told(folder, root) if is_there)
-    return [f"{name} takes {what}" for name in names for what in [taken(f"{root or ''}{name}")] if what]
+    """Returns a text `PATH takes ..` for each file that the machine in this folder read and that asks the processor directly."""
+    paths = dict.fromkeys(path for path, is_there in paths_told(folder, root) if is_there)
+    values = {path: taken(f"{root or ''}{path}") for path in paths}
+    return [f"{path} takes {value}" for path, value in values.items() if value]

@@ -14,44 +14,50 @@ from hinge.run.words import duration
 from hinge.simulated.calls_of_linux import call_name
 
 DRAWN = "drawn"
-RAREST, OFTENEST = 14, 4  # powers of two: of calls between two pauses at most, where the seed draws them
-LONGEST = 22  # the longest pause is 2^22 us and as much again
-GENTLE = 10  # the longest one of some seeds
-STEPS = 11  # a pause between two calls is 2^11 instructions behind the first one at most, and as many again
-LONG = 3  # by half of the seeds that draw pauses, all are of an eighth of the longest at least
-MOST_GIVEN = 256  # the kernel's PAUSES_KEPT
-SHOWN = 10  # pauses that are told in words
+PAUSE = re.compile(r"(\d{1,12})([-+])([\d.]{1,20}[mun]?s)(?:@(\d{1,6}))?", re.ASCII)  # as in 2304+5us@250
+OFTENEST, RAREST = 4, 14  # the range of a seed's power of two: the most calls between two pauses that the seed draws
+GENTLE, LONGEST = 10, 22  # the range of a seed's power of two for its longest pauses: 2^22 us, and as much again
+STEPS = 11  # a pause between two calls begins at most 2^11 instructions after the first call, and as many again
+LONG = 3  # half of the seeds draw no pause below an eighth (2^-3) of their longest
+MOST_GIVEN = 256  # the greatest number of pauses, PAUSES_KEPT in the kernel
+SHOWN = 10  # the greatest number of pauses that a report lists
 NO_PAUSES = "neither pauses one by one, as 1034-16ms,2200+0.5s,2304+5us@250, nor `drawn`"
 
 
 class Given(NamedTuple):
-    """A requested pause."""
+    """Describes a pause that the user listed or the seed drew."""
 
-    call: int  # its number, among those that may pause
-    where: str
-    ns: int
-    steps: int = 0  # instructions behind the call, where other processes have the same memory
+    call: int  # the number of the call, among the calls that may pause
+    where: str  # `before` or `behind` the call
+    ns: int  # the length
+    steps: int = 0  # instructions after the call, if other threads have the same memory
 
     def word(self) -> str:
-        return f"{self.call}{'-' if self.where == 'before' else '+'}{self.ns}ns" + (f"@{self.steps}" if self.steps else "")
+        """Returns the pause in the form of --pauses."""
+        sign = "-" if self.where == "before" else "+"
+        steps = f"@{self.steps}" if self.steps else ""
+        return f"{self.call}{sign}{self.ns}ns{steps}"
 
 
 class Pauses(NamedTuple):
-    asked: str  # as the option has it
+    """Holds the value of --pauses, and the pauses that result."""
+
+    asked: str  # the option's value
     given: "tuple[Given, ...]"
 
     def lines(self) -> Iterator[str]:
-        """Yields the lines for the kernel, which draws no pauses: 0 in 1 call, with the seed 0."""
+        """Yields lines for the kernel. The first keeps the kernel from drawing pauses itself: 0 in 1 call, with the seed 0."""
         yield "0 1 0"
-        for one in self.given:
-            yield f"{one.call} {one.where} {one.ns}" + (f" {one.steps}" if one.steps else "")
+        for pause in self.given:
+            line = f"{pause.call} {pause.where} {pause.ns}"
+            yield f"{line} {pause.steps}" if pause.steps else line
 
 
 class Paused(NamedTuple):
-    """One pause; times are in ns of the machine."""
+    """Describes a pause that a process made; times are in ns of the machine."""
 
     at: int
-    number: int  # of the call, among those that may pause
+    number: int  # the number of the call, among the calls that may pause
     length: int
     call: str
     process: int
@@ -70,7 +76,7 @@ class Paused(NamedTuple):
 
 
 class PausesMade(NamedTuple):
-    """A machine's final report: the number of calls that could pause, and the first pauses."""
+    """Describes a machine's pauses: the calls that could pause, the number and the sum of the pauses, and the first of them."""
 
     calls: int
     amount: int
@@ -79,14 +85,18 @@ class PausesMade(NamedTuple):
 
 
 def given(text: str) -> "tuple[Given, ...]":
-    """Returns listed pauses in call order, at most one per call; None if the text has another form."""
-    words = [re.fullmatch(r"(\d{1,12})([-+])([\d.]{1,20}[mun]?s)(?:@(\d{1,6}))?", word, re.ASCII) for word in text.split(",")]
-    items = {
-        Given(int(one[1]), "before" if one[2] == "-" else "behind", duration(one[3]), int(one[4] or 0)) for one in words if one
-    }
-    if any(one.steps and one.where == "before" for one in items):
+    """Reads listed pauses, and returns them in the order of their calls. Returns no pauses if the text has another form, two pauses
+    are at the same call, or there are too many. Wrong: a pause's length is no time."""
+    words = text.split(",")
+    pauses = list[Given]()
+    for match in (PAUSE.fullmatch(word) for word in words):
+        if match:
+            where = "before" if match[2] == "-" else "behind"
+            pauses.append(Given(int(match[1]), where, duration(match[3]), int(match[4] or 0)))
+    calls = {pause.call for pause in pauses}
+    if any(pause.steps and pause.where == "before" for pause in pauses):
         return ()
-    return tuple(sorted(items)) if len({one.call for one in items}) == len(words) <= MOST_GIVEN else ()
+    return tuple(sorted(pauses)) if len(calls) == len(words) <= MOST_GIVEN else ()
 
 
 def number_from_text(text: str) -> int:
@@ -97,23 +107,30 @@ def number_from_text(text: str) -> int:
 
 
 def drawn_pauses(seed: int) -> Iterator[Given]:
-    """Pauses that get rarer, so that few calls have some, until they are as rare as the seed says."""
-    rare, longest, are_long = (number_from_text(f"{what} {seed}") for what in ("how often", "longest", "how long"))
-    most = 2 ** (rare % (RAREST - OFTENEST + 1) + OFTENEST)
-    are_stepped = number_from_text(f"between {seed}") % 2  # by half of the seeds pauses are between calls
-    longest = longest % (LONGEST - GENTLE + 1) + GENTLE
-    shortest, call = are_long % 2 * (longest - LONG), 0
+    """Yields the pauses that a seed draws. Their distances grow up to the seed's maximum, so that short runs pause, too, and few
+    calls pause."""
+    most = 2 ** (number_from_text(f"how often {seed}") % (RAREST - OFTENEST + 1) + OFTENEST)  # calls between two pauses
+    longest = number_from_text(f"longest {seed}") % (LONGEST - GENTLE + 1) + GENTLE
+    are_long = number_from_text(f"how long {seed}") % 2 == 1
+    shortest = longest - LONG if are_long else 0
+    are_stepped = number_from_text(f"between {seed}") % 2 == 1  # half of the seeds draw pauses between calls
+    call = 0
     for _ in range(MOST_GIVEN):
         place, power, more, where = (number_from_text(f"{what} {call} {seed}") for what in ("place", "length", "more", "where"))
-        call += 1 + place % min(call // 4 + 3 if are_stepped else call * 2 // 3 + 2**OFTENEST // 2, most)
+        distance = call // 4 + 3 if are_stepped else call * 2 // 3 + 2**OFTENEST // 2
+        call += 1 + place % min(distance, most)
         span = 1000 << shortest + power % (longest - shortest + 1)
-        steps = number_from_text(f"steps {call} {seed}")
         is_before = where % (4 if are_stepped else 2) == 0
-        least = 0 if is_before or not are_stepped else 1 << steps % (STEPS + 1)
-        yield Given(call, "before" if is_before else "behind", span + more % span, least + (steps >> 8) % max(least, 1))
+        steps = 0
+        if are_stepped and not is_before:
+            number = number_from_text(f"steps {call} {seed}")
+            least = 1 << number % (STEPS + 1)
+            steps = least + (number >> 8) % least
+        yield Given(call, "before" if is_before else "behind", span + more % span, steps)
 
 
 def pauses_of(word: Optional[str], seed: int) -> Optional[Pauses]:
+    """Returns the pauses for the option --pauses, if given."""
     if word is None:
         return None
     return Pauses(word, tuple(drawn_pauses(seed)) if word == DRAWN else given(word))
@@ -125,7 +142,7 @@ def paused(line: str) -> Paused:
 
 
 def pauses_made(path: Path) -> Optional[PausesMade]:
-    """Returns a machine's report in this file, if the machine had pauses."""
+    """Returns a machine's report on its pauses, if there were any."""
     if not path.exists():
         return None
     first, *others = path.read_text(errors="replace").splitlines()

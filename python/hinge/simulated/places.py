@@ -1,4 +1,4 @@
-"""The places of threads in their programs, found with gdb in the cores that a machine left."""
+"""The places of threads in their programs, which gdb finds in the cores that a machine left."""
 
 from __future__ import annotations
 
@@ -17,8 +17,8 @@ GDB = "gdb"
 FRAME = re.compile(r"#\d+ +(?:0x[0-9a-f]+ in )?(\S+) \(.*?\)(?: at (\S+))?( from \S+)?$")
 THREAD = re.compile(r"Thread \d+ .*\(?LWP (\d+)\)")
 PROGRAM = re.compile(r'AT_EXECFN .* "(.*)"$', re.MULTILINE)
-FRAMES = 4  # that are told
-LONGEST = 30  # s that gdb has for a core
+FRAMES = 4  # the most functions of a place
+LONGEST = 30  # s after which gdb is ended
 
 
 def has_debugger() -> bool:
@@ -36,15 +36,17 @@ def debugger(root: Optional[str], core: Path, *commands: str) -> str:
 
 
 def innermost_place(lines: "list[str]") -> str:
-    """Returns the innermost functions of a backtrace in the program, with their lines, or otherwise in its libraries."""
-    frames = [(one[1], one[2] or "", one[3]) for line in lines if (one := FRAME.match(line)) and one[1] != "??"]
+    """Returns the innermost functions in the lines of a backtrace, each with its file and line, if known. Prefers the program's
+    functions; without any, returns functions of libraries."""
+    matches = [match for match in map(FRAME.match, lines) if match and match[1] != "??"]
+    frames = [(match[1], match[2] or "", match[3]) for match in matches]
     own = [frame for frame in frames if not frame[2] and not frame[1].startswith(("../", "./"))]
     return " < ".join(f"{name} ({basename(file)})" if file else name for name, file, _ in (own or frames)[:FRAMES])
 
 
 def backtraces(folder: Path, process: int, root: Optional[str]) -> "Iterator[tuple[int, str]]":
-    """Yields each thread's number in its machine and its place, beginning with the thread that ended the process; nothing without
-    a core."""
+    """Yields each thread's number in its machine and the thread's place, beginning with the thread that ended the process, if the
+    process left a core."""
     core = folder / f"core.{process}"
     program = PROGRAM.search(debugger(root, core, "info auxv")) if core.exists() else None
     if program is None:
@@ -62,9 +64,10 @@ def innermost(folder: Path, process: int, root: Optional[str]) -> str:
 
 
 def with_places(threads: "tuple[Waiting, ...]", folder: Path, root: Optional[str]) -> "tuple[Waiting, ...]":
-    """Returns the threads with their places, where known. Another namespace has other numbers, in the same order."""
+    """Returns the threads with their places, if gdb finds them. In another namespace threads have other numbers, but the same
+    order, which pairs threads and places."""
     result = list[Waiting]()
-    for process, group in groupby(sorted(threads, key=Waiting.numbers), lambda one: one.process):
+    for process, group in groupby(sorted(threads, key=Waiting.numbers), lambda thread: thread.process):
         places = (text for _, text in sorted(backtraces(folder, process, root)))
-        result += [one._replace(place=next(places, "")) for one in group]
+        result += [thread._replace(place=next(places, "")) for thread in group]
     return tuple(result)

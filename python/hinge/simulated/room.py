@@ -1,4 +1,4 @@
-"""The folder of a machine: in memory, where that may be executed."""
+"""The folders of a machine: one with the memory, which the system must permit to execute, and one for files that remain."""
 
 from __future__ import annotations
 
@@ -14,7 +14,7 @@ from hinge.run.system import Missing
 
 
 def may_be_executed(folder: str) -> bool:
-    """Returns whether files in a folder can be mapped as code. Machines map their memory so."""
+    """Returns whether files in a folder can be mapped as code, like a machine's memory."""
     try:
         with tempfile.TemporaryFile(dir=folder) as file:
             file.truncate(mmap.PAGESIZE)
@@ -25,7 +25,7 @@ def may_be_executed(folder: str) -> bool:
 
 
 def memory_folder(size: int) -> str:
-    """Returns a folder with enough free bytes that permits execution, preferably in memory. Missing: there is no such folder."""
+    """Returns a folder with `size` free bytes that permits execution, preferably in memory. Missing: there is no such folder."""
     places = [IN_MEMORY, temporary_place(), "/var/tmp"]
     for place in places:
         if os.path.isdir(place) and may_be_executed(place) and shutil.disk_usage(place).free >= size:
@@ -39,7 +39,8 @@ class Room:
     """The folder that a machine shares with its launcher, and a folder for files that remain."""
 
     def __init__(self, size: int, place: Optional[str] = None) -> None:
-        """Creates the folders for a machine with this much memory. `place`, a given folder for remaining files, isn't removed."""
+        """Creates the folders for a machine with `size` bytes of memory. `place`, if given, is the caller's folder for files that
+        remain; `remove` leaves this folder."""
         self.memory = memory_folder(size)
         self.scratch = Folder(self.memory)
         self.folder = self.scratch.path
@@ -48,6 +49,7 @@ class Room:
         (self.folder / "kept").symlink_to(self.kept)
 
     def remove(self) -> None:
+        """Removes the folders, except for the caller's."""
         self.scratch.remove()
         if self.own:
             self.own.remove()

@@ -1,4 +1,4 @@
-"""Starts a `hinge` command again in a simulated machine, and reports on it."""
+"""Starts a `hinge` command again in a simulated machine, and reports on the run."""
 
 from __future__ import annotations
 
@@ -58,7 +58,8 @@ InRooms = Union[LinkRun, "NetRun"]
 
 def settings_of(options: SimulatedOptions, seed: int) -> Settings:
     at = date(BEGINNING) if options.at is None else options.at
-    memory, cpu = options.memory or size(MEMORY), options.cpu or "stable"
+    memory = options.memory or size(MEMORY)
+    cpu = options.cpu or "stable"
     scratch = options.scratch or options.twice
     pauses = pauses_of(options.pauses, seed)
     cores = OF_DEADLOCK if has_debugger() else NO_CORES
@@ -66,8 +67,8 @@ def settings_of(options: SimulatedOptions, seed: int) -> Settings:
 
 
 def inside(options: NetOptions, seed: int) -> NetOptions:
-    """Returns the options inside for a net with disks, whose rooms Python creates there. There any user may use a link, and a
-    transcript is always a new file, copied at the end, since an existing one would show in the run. The launcher's own options are
+    """Returns the options with which Python runs a net with disks inside the machine. Any user may use a link there, and a
+    transcript is always a new file, copied at the end, since an existing file could influence the run. The launcher's options are
     left out: the words are in the programs' memory, and mustn't change the run."""
     ours = dict.fromkeys(("kept", "pauses", "real_limit", "limit", "like", "root"))
     files = {"transcript": transcript_of(options), "json": f"{KEPT}/{MACHINE_SUMMARY}"}
@@ -80,7 +81,7 @@ def transcript_of(options: SimulatedOptions) -> Optional[str]:
 
 
 class Planned(NamedTuple):
-    """A planned run in a machine. Only a net with disks lacks rooms, since Python creates these in the machine."""
+    """Describes a planned run in a machine. A net with disks has no rooms here, since Python creates its rooms in the machine."""
 
     options: SimulatedOptions
     seed: int
@@ -88,6 +89,7 @@ class Planned(NamedTuple):
     rooms: Optional[InRooms]
 
     def job(self, inputs: Path, is_one_stream: bool) -> Job:
+        """Returns the machine's job; `inputs` is the file with its standard input."""
         names = environment(self.options.clean_env)
         if self.rooms:
             return Job(self.options.command, inputs, is_one_stream, names, self.rooms.texts())
@@ -96,12 +98,13 @@ class Planned(NamedTuple):
 
 
 def planned(options: SimulatedOptions) -> Planned:
+    """Plans a run with these options, and draws a seed unless given. Wrong: there is --root with disks."""
     seed = drawn_seed(options.seed)
     rooms: Optional[InRooms] = None
     if isinstance(options, RunOptions):
         rooms = link_run(options, seed, transcript_of(options))
     elif isinstance(options, NetOptions):
-        from hinge.simulated.net_machine import net_run  # which `hinge run` needs not
+        from hinge.simulated.net_machine import net_run  # `hinge run` doesn't need this module
 
         rooms = net_run(options, seed, transcript_of(options))
     if options.root and rooms is None:
@@ -111,19 +114,19 @@ def planned(options: SimulatedOptions) -> Planned:
 
 @contextmanager
 def ending(machines: "list[Machine]") -> Iterator[list[int]]:
-    """Yields the list of signals that came; each also ends the machines immediately."""
-    came: list[int] = []
+    """Yields the list of the signals that come (SIGINT, SIGTERM and SIGHUP). Each signal also kills the machines."""
+    signals: list[int] = []
 
     def end(number: int, frame: object) -> None:
-        came.append(number)
+        signals.append(number)
         for machine in machines:
-            machine.end(128 + number)
+            machine.end(SIGNALLED + number)
 
-    before = {number: signal.signal(number, end) for number in (signal.SIGINT, signal.SIGTERM, signal.SIGHUP)}
+    earlier_handlers = {number: signal.signal(number, end) for number in (signal.SIGINT, signal.SIGTERM, signal.SIGHUP)}
     try:
-        yield came
+        yield signals
     finally:
-        for number, handler in before.items():
+        for number, handler in earlier_handlers.items():
             signal.signal(number, handler)
 
 
@@ -140,14 +143,16 @@ def hand_over(machine: Machine, transcript: Optional[str]) -> None:
 
 
 def verdict_of(machine: Machine, rooms: Optional[InRooms], summary: "dict[str, Any]") -> Optional[MachineVerdict]:
-    """Returns the program's verdict; None if it didn't start."""
-    endings, start = machine.ended(), BOOTED * 10**9
+    """Returns the verdict on the program: how the program ended, or why it didn't. None: the program didn't start."""
     if machine.cut is not None:
         stood = machine.stood()
-        by, name = (REAL_LIMIT, None) if machine.cut == TIMED_OUT else (OUTSIDE, signal_name(machine.cut - SIGNALLED))
-        return MachineVerdict(by, machine.cut, name, stood.now / 1e9 if stood else None)
+        moment_of_kill = stood.now / 1e9 if stood else None
+        if machine.cut == TIMED_OUT:
+            return MachineVerdict(REAL_LIMIT, machine.cut, None, moment_of_kill)
+        return MachineVerdict(OUTSIDE, machine.cut, signal_name(machine.cut - SIGNALLED), moment_of_kill)
+    endings = machine.ended()
     if endings and endings.cut:
-        moment, threads = waits(machine.folder / "waits", start)
+        moment, threads = waits(machine.folder / "waits", BOOTED * 10**9)
         if endings.cut == NO_LIFE:
             return MachineVerdict(DEADLOCK, DEADLOCKED, None, moment, with_places(threads, machine.folder, machine.root))
         return MachineVerdict(LIMIT, LIMITED, None, endings.simulated / 1e9, threads)
@@ -156,14 +161,15 @@ def verdict_of(machine: Machine, rooms: Optional[InRooms], summary: "dict[str, A
     return MachineVerdict(ITSELF, summary["status"]) if isinstance(summary.get("status"), int) else None
 
 
-def told_simulated(endings: MachineEnded, verdict: Optional[MachineVerdict]) -> MachineEnded:
-    """Returns the machine's result, up to a deadlock if there was one."""
-    is_dead = verdict is not None and verdict.by == DEADLOCK and verdict.at is not None
-    return endings._replace(simulated=round(verdict.at * 1e9)) if is_dead else endings  # type: ignore[union-attr, operator]
+def result_until_deadlock(endings: MachineEnded, verdict: Optional[MachineVerdict]) -> MachineEnded:
+    """Returns the machine's result; after a deadlock, the simulated time is the deadlock's moment."""
+    if verdict is None or verdict.by != DEADLOCK or verdict.at is None:
+        return endings
+    return endings._replace(simulated=round(verdict.at * 1e9))
 
 
-def told_cut(verdict: MachineVerdict, options: SimulatedOptions) -> Iterator[str]:
-    """Yields messages about a program that didn't end, unless the user ended the run."""
+def messages_of_end(verdict: MachineVerdict, options: SimulatedOptions) -> Iterator[str]:
+    """Yields messages about a program that didn't end by itself, except if somebody ended the run from outside."""
     if verdict.by == REAL_LIMIT:
         yield f"it was ended after {real_limit_of(options):g} s of real time, by --real-limit"
     elif verdict.by != OUTSIDE:
@@ -171,7 +177,7 @@ def told_cut(verdict: MachineVerdict, options: SimulatedOptions) -> Iterator[str
 
 
 class Reported(NamedTuple):
-    """A run's result: its status and its record for programs."""
+    """Holds a run's result: status, verdict, and the record for the summary."""
 
     status: int
     verdict: Optional[MachineVerdict]
@@ -185,13 +191,15 @@ def has_begun(machine: Machine, options: SimulatedOptions, verdict: MachineVerdi
 
 
 def summary_of(machine: Machine) -> "dict[str, Any]":
+    """Returns the summary that was written in the machine; otherwise an empty dict."""
     path = machine.room.kept / MACHINE_SUMMARY
     result = json.loads(path.read_text()) if path.exists() else {}
     return result if isinstance(result, dict) else {}
 
 
 def reported(machine: Machine, plan: Planned, kernel: Kernel, files: bool, is_told: bool = True) -> Reported:
-    """Reports a run, unless it should be quiet. Missing: the kernel doesn't support pauses, or the machine failed early."""
+    """Prints the report on a run, and returns the result, whose record contains the opened files if `files`. If not `is_told`,
+    prints no report on links and the program's end. Missing: the kernel doesn't support pauses, or the machine failed early."""
     options = plan.options
     settings = plan.settings
     endings = machine.ended()
@@ -200,37 +208,43 @@ def reported(machine: Machine, plan: Planned, kernel: Kernel, files: bool, is_to
     rooms = plan.rooms if (machine.folder / "ran").exists() else None
     verdict = verdict_of(machine, rooms, summary_of(machine))
     is_cut = verdict is not None and verdict.by not in (ITSELF, SIGNAL)
-    status = machine.cut if machine.cut is not None else endings.status if endings else 0
+    status = endings.status if endings else 0
+    if machine.cut is not None:
+        status = machine.cut
     if rooms:
         status = rooms.report(machine.folder, machine.room.kept / MACHINE_SUMMARY, verdict, say if is_told else lambda line: None)
     if is_cut and verdict:
         status = verdict.status
-        for line in told_cut(verdict, options) if is_told else ():
-            say(line)
+    for line in messages_of_end(verdict, options) if is_cut and verdict and is_told else ():
+        say(line)
     record: Record = {"format": FORMAT, "seed": plan.seed, **summary_of(machine)}
-    if verdict:
-        own = {"ended": verdict.record()} if has_begun(machine, options, verdict) else {}
-        record = {**record, **({"status": status} if is_cut else {}), **own}
+    if is_cut:
+        record["status"] = status
+    if verdict and has_begun(machine, options, verdict):
+        record["ended"] = verdict.record()
     if endings:
-        outcome = RunOutcome.of(machine, told_simulated(endings, verdict), settings)
+        outcome = RunOutcome.of(machine, result_until_deadlock(endings, verdict), settings)
         if settings.pauses and not outcome.pauses:
             raise Missing("--pauses: this kernel has none; `hinge kernel` builds one that has")
         for line in outcome.lines() if not options.quiet else []:
             say(line)
-        record = {**record, **outcome.record(kernel)}
+        record.update(outcome.record(kernel))
     if files:
         record.update(files_record(machine.folder, machine.root))
     return Reported(status, verdict, record)
 
 
 def report_of_machine(machine: Machine, plan: Planned, kernel: Kernel) -> int:
-    """Reports a run; returns its status. OSError: the disk for its output is full."""
+    """Copies the transcript, reports on a run, and writes the summary; returns the run's status. OSError: some output couldn't be
+    written, such as to a full disk."""
     options = plan.options
     hand_over(machine, options.transcript)
-    if (fault := machine.lost()) and fault.errno != errno.EPIPE:
+    fault = machine.lost()
+    if fault and fault.errno != errno.EPIPE:
         raise fault
     result = reported(machine, plan, kernel, bool(options.json or options.like))
-    if machine.cut == TIMED_OUT and (stood := machine.stood()):
+    stood = machine.stood() if machine.cut == TIMED_OUT else None
+    if stood:
         say(stood.line())
     if options.like and machine.cut is None:
         for line in remarks(options.like, earlier(options.like), result.record):
@@ -242,22 +256,22 @@ def report_of_machine(machine: Machine, plan: Planned, kernel: Kernel) -> int:
 
 
 def run_simulated(options: SimulatedOptions) -> int:
-    """Runs a link or a net with these options; returns its status."""
+    """Runs a link or a net in simulated time, and with --twice a second time beside; returns the status."""
     refuse_outside(options, has_terminal())
     if options.like:
-        earlier(options.like)  # so that a wrong one is told before a machine is made
+        earlier(options.like)  # a wrong file is reported before a machine starts
     limit = real_limit_of(options)
     kernel = usable_kernel()
     plan = planned(options)
     machines = list[Machine]()
-    with scratch() as place, ending(machines) as came:
+    with scratch() as place, ending(machines) as signals:
         read_input(place / "in")
         job = plan.job(place / "in", is_same_file(1, 2) and not options.twice)
         try:
-            for part in [options.kept, None] if options.twice else [options.kept]:
-                machines.append(Machine(kernel, plan.settings, job, part))
-            if came:
-                return 128 + came[0]
+            for folder in [options.kept, None] if options.twice else [options.kept]:
+                machines.append(Machine(kernel, plan.settings, job, folder))
+            if signals:
+                return SIGNALLED + signals[0]
             machines[0].copy_to(1, 2, keeps=options.twice)
             others = [threading.Thread(target=machine.wait, args=(limit,)) for machine in machines[1:]]
             for other in others:

@@ -1,4 +1,4 @@
-"""The state of a machine that was killed, which its kernel writes to a shared file in memory."""
+"""The state of a machine that was killed, which the machine's kernel writes to a file in shared memory."""
 
 from __future__ import annotations
 
@@ -13,7 +13,7 @@ MANY = 10_000  # calls without a wait that are worth a word
 
 
 class Stood(NamedTuple):
-    """Simulated time in ns, since when no process has waited, and the last call since."""
+    """Describes a machine's state: the simulated time and the moment of the last wait, in ns, and the calls since that moment."""
 
     now: int
     since: int
@@ -31,11 +31,12 @@ class Stood(NamedTuple):
 
 
 def make_place(folder: Path) -> None:
+    """Creates the file to which the machine's kernel writes its state."""
     (folder / NAME).write_bytes(bytes(PLACE.size))
 
 
 def stood(folder: Path, start: int) -> Optional[Stood]:
-    """Returns the kernel's report, if any; `start` is the moment in ns at which the job began."""
+    """Returns the state that the kernel reported last, if any. `start` is the moment in ns at which the job began."""
     now, since, calls, process, call, name = PLACE.unpack((folder / NAME).read_bytes()[: PLACE.size])
     if not now:
         return None

@@ -16,21 +16,22 @@ from hinge.run.system import libc
 
 PAUSE = 0.02  # s between looks at a file
 PIECE = 1 << 20  # bytes
-MOST_AHEAD = 64 << 20  # bytes that a machine may be ahead of who reads its output
-KEEP_SIZE, PUNCH_HOLE = 1, 2  # of fallocate(2)
-PATIENCE = 2.0  # s until it is told that the input hasn't ended
+MOST_AHEAD = 64 << 20  # bytes by which a machine may be ahead of its output's reader
+KEEP_SIZE, PUNCH_HOLE = 1, 2  # flags of fallocate(2)
+PATIENCE = 2.0  # s until a message that the input hasn't ended
 
 
 class Copier(threading.Thread):
-    """Copies a growing file to a descriptor. Copied parts free their memory, unless the file is kept."""
+    """Copies a growing file to a descriptor in a thread. Copied parts are removed from the file's memory, unless `keeps`."""
 
     def __init__(self, path: Path, to: int, keeps: bool) -> None:
         super().__init__(daemon=True)
         self.file = os.open(path, os.O_RDWR | os.O_CLOEXEC)
         self.to = to
         self.keeps = keeps
-        self.copied, self.is_last = 0, False
-        self.fault: Optional[OSError] = None  # nobody reads it any more, or its disk is full
+        self.copied = 0  # bytes
+        self.is_last = False  # whether the file is complete
+        self.fault: Optional[OSError] = None  # the error if nobody reads the output any more, or the disk is full
         self.start()
 
     def ahead(self) -> int:
@@ -61,6 +62,7 @@ class Copier(threading.Thread):
             self.fault = fault
 
     def finish(self) -> None:
+        """Copies the rest of the file, which is complete now, and ends the thread."""
         self.is_last = True
         self.join()
         os.close(self.file)

@@ -1,4 +1,5 @@
-"""The options of simulated time. A help needs no other module, so readers of values import those that they use."""
+"""The options of simulated time. Each function that reads a value imports the necessary modules itself, so that a help loads no
+other."""
 
 from __future__ import annotations
 
@@ -15,8 +16,8 @@ CPUS = ("stable", "v2", "v3", "host")
 
 
 def date(text: str) -> int:
-    """Returns the seconds since 1970 for a date such as 2026-01-01 or 2026-01-01T12:00, in UTC without a zone. ArgumentTypeError:
-    the text is no date."""
+    """Returns the seconds since 1970 for `now` or a date such as 2026-01-01 or 2026-01-01T12:00, which is in UTC unless it names a
+    zone. ArgumentTypeError: the text is no date."""
     from datetime import datetime, timezone
 
     if text == "now":
@@ -40,7 +41,7 @@ def size(text: str) -> int:
 
 
 def pauses_word(text: str) -> str:
-    """Returns the word of the option. ArgumentTypeError: the text is no such word."""
+    """Checks and returns a value of --pauses. ArgumentTypeError: the value is neither `drawn` nor a list of pauses."""
     from hinge.run.words import Wrong
     from hinge.simulated.pauses import DRAWN, NO_PAUSES, given
 

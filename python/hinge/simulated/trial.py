@@ -1,4 +1,4 @@
-"""Whether a kernel travels in time."""
+"""Tries whether a kernel's machines skip the times in which all processes wait."""
 
 from __future__ import annotations
 
@@ -16,7 +16,8 @@ REAL = 300.0  # s after which a trial is over
 
 
 def try_hour(kernel: Kernel) -> float:
-    """Returns the simulated seconds of an hour's sleep in this kernel's machine. Fault: the kernel doesn't skip waiting times."""
+    """Returns the simulated seconds of an hour's sleep in a machine of this kernel. Fault: the machine's clock shows another
+    length."""
     with scratch() as place:
         empty = place / "in"
         empty.touch()

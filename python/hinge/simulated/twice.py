@@ -10,7 +10,7 @@ from hinge.command import say
 from hinge.replays.parting import parting
 from hinge.simulated.machine import Machine
 
-DIFFERENT = 76  # the status of two runs that differ
+DIFFERENT = 76  # the status if two runs differ
 TRANSCRIPT = "the transcript"
 COMPARED = (("out", "standard output"), ("err", "standard error"), ("kept/history", TRANSCRIPT))
 SHOWN = 200  # bytes of a line
@@ -21,39 +21,45 @@ def printable_line(line: Optional[bytes]) -> str:
 
 
 def difference(one: Path, other: Path, what: str) -> Optional[str]:
-    """Returns the first difference of two files; transcripts are compared call by call, unless only remarks differ."""
+    """Returns a text on the first difference of two files, if any. Transcripts are compared call by call, unless only remarks
+    differ; `what` names the file in the text."""
     with open(one, "rb") as first, open(other, "rb") as second:
         pairs = enumerate(zip_longest(first, second), 1)
-        parted = next(((number, line, beside) for number, (line, beside) in pairs if line != beside), None)
-    if parted is None:
+        different = next(((number, line, other_line) for number, (line, other_line) in pairs if line != other_line), None)
+    if different is None:
         return None
-    number, line, beside = parted
-    whole = what == TRANSCRIPT and one.stat().st_size and other.stat().st_size
-    part = parting(one, other) if whole else None
-    if part is None:
-        return f"{what} parts in line {number:,}: {printable_line(line)} and {printable_line(beside)}"
-    return f"{what} parts in call {part.number:,}{part.at()}: {part.reason()}\n{part.text()}"
+    number, line, other_line = different
+    are_transcripts = what == TRANSCRIPT and one.stat().st_size and other.stat().st_size
+    call = parting(one, other) if are_transcripts else None
+    if call is None:
+        return f"{what} parts in line {number:,}: {printable_line(line)} and {printable_line(other_line)}"
+    return f"{what} parts in call {call.number:,}{call.at()}: {call.reason()}\n{call.text()}"
 
 
 def length(machine: Machine, name: str) -> int:
+    """Returns the length of a machine's file; 0 for a missing file."""
     path = machine.folder / name
     return path.stat().st_size if path.exists() else 0
 
 
 def compared(machines: "list[Machine]", status: int, seed: int) -> int:
-    """Tells whether two runs were the same; the status of the first, or that of two that differ."""
+    """Reports whether the runs of two machines were the same. Returns DIFFERENT or, if the runs are the same or were ended from
+    outside, the status of the first run."""
     one, other = machines
     if one.cut is not None:
         return status
-    faults = [] if one.ended() == other.ended() else [f"one ended with {one.ended()}, the other with {other.ended()}"]
+    differences = list[str]()
+    if one.ended() != other.ended():
+        differences.append(f"one ended with {one.ended()}, the other with {other.ended()}")
     for name, what in COMPARED:
-        result = difference(one.folder / name, other.folder / name, what) if length(one, name) or length(other, name) else None
-        if result:
-            faults.append(result)
-    for fault in faults:
-        for line in f"two runs by seed {seed} differ: {fault}".split("\n"):
+        has_bytes = length(one, name) or length(other, name)
+        text = difference(one.folder / name, other.folder / name, what) if has_bytes else None
+        if text:
+            differences.append(text)
+    for text in differences:
+        for line in f"two runs by seed {seed} differ: {text}".split("\n"):
             say(line)
-    if faults:
+    if differences:
         return DIFFERENT
     sizes = ", ".join(f"{length(one, name):,} bytes of {what}" for name, what in COMPARED)
     say(f"two runs by seed {seed} are the same: {sizes}")

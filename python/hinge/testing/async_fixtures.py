@@ -1,4 +1,4 @@
-"""Fixtures and tests that are coroutines, and that have simulated time by another fixture."""
+"""Runs asynchronous fixtures and tests in simulated time, if the test has the fixture sim_net."""
 
 from __future__ import annotations
 
@@ -15,14 +15,15 @@ NETWORK = "sim_net"
 
 
 def asynchronous(call: Callable[..., Any]) -> Optional[Callable[..., Any]]:
-    """Returns the coroutine function or asynchronous generator of a fixture or test, even inside another plugin's wrapper; None if
-    it is synchronous."""
+    """Returns the function of an asynchronous fixture or test (a coroutine function or asynchronous generator), without other
+    plugins' wrappers."""
     result = inspect.unwrap(call)
     return result if inspect.iscoroutinefunction(result) or inspect.isasyncgenfunction(result) else None
 
 
 def bound(call: Callable[..., Any], instance: object) -> Callable[..., Any]:
-    """Binds a method of a test class to the test's object; returns it."""
+    """Returns a fixture's method, bound to the test's object, if the method's class is that of the test; returns any other function
+    unchanged."""
     owner = getattr(call, "__self__", None)
     if owner is None or not isinstance(instance, type(owner)):
         return call
@@ -30,7 +31,7 @@ def bound(call: Callable[..., Any], instance: object) -> Callable[..., Any]:
 
 
 def synchronous(call: Callable[..., Any], net: Network) -> Callable[..., Any]:
-    """Returns a synchronous version of an asynchronous fixture, which runs in the network."""
+    """Returns a synchronous function or generator that runs an asynchronous fixture in the network."""
     names = inspect.signature(call).parameters
 
     @functools.wraps(call)
@@ -57,17 +58,20 @@ async def step(generator_of_loop: AsyncGenerator[object, None]) -> object:
 
 @pytest.hookimpl(hookwrapper=True)  # type: ignore[misc]
 def pytest_fixture_setup(fixturedef: Any, request: pytest.FixtureRequest) -> Generator[None, None, None]:
-    """Runs an asynchronous fixture that no other test shares in its test's network, if any; returns the fixture's value."""
-    own, call = fixturedef.func, asynchronous(fixturedef.func)
+    """Runs an asynchronous fixture in the network of the test's sim_net, if the test has one: replaces the fixture's function
+    during the setup. Fixtures that tests share (with another scope than `function`) stay asynchronous."""
+    own_function = fixturedef.func
+    call = asynchronous(own_function)
     if call is not None and fixturedef.scope == "function" and NETWORK in request.fixturenames:
         fixturedef.func = synchronous(bound(call, request.instance), request.getfixturevalue(NETWORK))
     yield
-    fixturedef.func = own
+    fixturedef.func = own_function
 
 
 @pytest.hookimpl(tryfirst=True)  # type: ignore[misc]
 def pytest_pyfunc_call(pyfuncitem: pytest.Function) -> Optional[bool]:
-    """Runs an asynchronous test in the network that its fixture provides, if any; returns whether it did."""
+    """Runs an asynchronous test in the network of sim_net, if only a fixture of the test uses sim_net; returns whether to leave out
+    pytest's call."""
     call = asynchronous(pyfuncitem.obj)
     if call is None or NETWORK not in pyfuncitem.funcargs or NETWORK in inspect.signature(call).parameters:
         return None

@@ -1,4 +1,4 @@
-"""The emulated links of a test, as paths in real and in simulated time, with their reports."""
+"""The emulated links of a test in real and in simulated time, with their reports."""
 
 from __future__ import annotations
 
@@ -25,7 +25,7 @@ PATIENCE = 30  # s until a path is ready, and until it has ended
 
 
 def audited(history: Path) -> str:
-    """Returns dummynet's verdict on a history, or the reason why there is none."""
+    """Returns dummynet's verdict on a history, or the reason why the audit failed."""
     try:
         return audit_of(str(history))
     except Fault as fault:
@@ -40,7 +40,7 @@ def records(history: Path) -> Iterator[list[str]]:
 
 
 def submissions(history: Path) -> Iterator[tuple[list[str], list[str]]]:
-    """Yields a history's packets: the fields in each call and its reply."""
+    """Yields two lists for each packet in a history: the fields of the call that submitted the packet, and of the reply."""
     call = [""]
     for record in records(history):
         if record[0] == "c":
@@ -50,22 +50,26 @@ def submissions(history: Path) -> Iterator[tuple[list[str], list[str]]]:
 
 
 def dropped_in_history(history: Path) -> list[str]:
-    """Returns a line for each packet that a history shows as lost or refused, and the number of those beyond a report's limit."""
+    """Returns a line for each packet in a history that wasn't queued, up to a report's limit, and a line with the number of the
+    others."""
     lines = [
         f"  row {row:>5}, {int(reply[2]) / 1e9:.9f} s, {call[5]}:{call[8]} > {call[6]}:{call[9]}, {call[10]} bytes: {reply[1]}"
         for row, (call, reply) in enumerate(submissions(history), 1)
         if reply[1] != "queued"
     ]
-    return lines[:MOST_DROPPED] + ([f"  and {len(lines) - MOST_DROPPED} more"] if len(lines) > MOST_DROPPED else [])
+    if len(lines) > MOST_DROPPED:
+        return [*lines[:MOST_DROPPED], f"  and {len(lines) - MOST_DROPPED} more"]
+    return lines
 
 
 def unmet_cuts(history: Path) -> list[str]:
-    """Returns the cuts in a net's transcript that no packet met. A cut gives its pipes lines with `plr 1`, all at once."""
-    names = list[str]()
-    met = list[int]()
-    cut_by = dict[str, int]()
+    """Returns a line for each cut in a net's transcript that lost no packet. A cut begins with a remark `# act,cut ..`, and then
+    configures all its pipes at once with `plr 1`. Returns an empty list if the remarks don't match the configurations."""
+    names = list[str]()  # the cuts' remarks
+    losses = list[int]()  # each cut's number of lost packets
+    cut_by = dict[str, int]()  # for each pipe in a cut, the cut's place in the lists
     call = [""]
-    is_cutting = False
+    is_cutting = False  # whether the last line configured a cut, to which the next one may belong
     for record in records(history):
         if record[:2] == ["#", "act"] and record[2].startswith("cut "):
             names.append(record[2])
@@ -73,42 +77,52 @@ def unmet_cuts(history: Path) -> list[str]:
             pipe = record[3].split()[1]
             is_cut = record[3].endswith(" plr 1")
             if is_cut and not is_cutting:
-                met.append(0)
-            cut_by = {**cut_by, pipe: len(met) - 1} if is_cut else {key: cut for key, cut in cut_by.items() if key != pipe}
+                losses.append(0)
+            if is_cut:
+                cut_by[pipe] = len(losses) - 1
+            else:
+                cut_by.pop(pipe, None)
             is_cutting = is_cut
         elif record[2:3] == ["submit"]:
-            call, is_cutting = record, False
+            call = record
+            is_cutting = False
         elif record[:2] == ["r", "lost"] and call[4] in cut_by:
-            met[cut_by[call[4]]] += 1
-    return [f"{name}: it met no packet" for name, count in zip(names, met) if not count] if len(names) == len(met) else []
+            losses[cut_by[call[4]]] += 1
+    if len(names) != len(losses):
+        return []
+    return [f"{name}: it met no packet" for name, count in zip(names, losses) if not count]
 
 
 class Emulated(ABC):
-    """A link's part in a test, for the report."""
+    """Describes a test's emulated link for the report."""
 
     def __init__(self, history: Path, own: frozenset[str] = frozenset()) -> None:
-        """`own` contains the words in the test's marks."""
-        self.history, self.told, self.own = history, "", own
+        """Describes a link with a history; `own` contains the words of the test's own marks, which must have an effect."""
+        self.history = history
+        self.own = own
+        self.told = ""  # the link's report at its end
         self.verdict: Optional[str] = None
-        self.faults: list[str] = []  # exceptions that nobody took
+        self.faults: list[str] = []  # exceptions that nobody caught
 
     def finish(self) -> None:
-        """Ends the link if necessary, and audits its history."""
+        """Ends the link and audits its history, unless an earlier call did."""
         if self.verdict is None:
             self.end()
             self.verdict = self.verdict or audited(self.history)
 
     def unmet(self) -> list[str]:
-        """Returns a line for each fault or word in the test's marks that had no effect; in real time, once the links have ended."""
+        """Returns a line for each fault, cut or word of the test's own marks that had no effect. In real time, the link must have
+        ended before."""
         return self.unmet_words(self.own)
 
     def unmet_words(self, words: Collection[str]) -> list[str]:
-        """Returns a line for each of these marks' words that had no effect."""
-        is_met = "link" not in words or self.history.exists() and any(submissions(self.history))
-        return ["the mark link: no packet came to a link of the test"] if not is_met else []
+        """Returns a line for each of these words of marks that had no effect."""
+        if "link" not in words or (self.history.exists() and any(submissions(self.history))):
+            return []
+        return ["the mark link: no packet came to a link of the test"]
 
     def idle(self) -> list[str]:
-        """Returns a line for each part of a simulated network that no packet met."""
+        """Returns a warning for each part of a simulated network (a link's change or function, a route) that no packet met."""
         return []
 
     @abstractmethod
@@ -121,7 +135,8 @@ class Emulated(ABC):
 
 
 class UdpPath(Emulated):
-    """A proxy on the loopback in front of a server there. Clients send to `address` and `port`."""
+    """Describes a UDP proxy in real time on the loopback interface, in front of a server. Clients send to `address`, a host and a
+    port."""
 
     def __init__(self, server: str, there: str, back: str, seed: int, history: Path, own: frozenset[str] = frozenset()) -> None:
         super().__init__(history, own)
@@ -137,6 +152,7 @@ class UdpPath(Emulated):
         return self.address[1]
 
     def _ready(self) -> tuple[str, int]:
+        """Returns the address that the proxy prints when ready. RuntimeError: the proxy doesn't start in time."""
         assert self.process.stdout
         ready = can_be_read(self.process.stdout, PATIENCE)
         match = re.fullmatch(r"ready at (.*):(\d+)\n", self.process.stdout.readline() if ready else "")
@@ -154,11 +170,12 @@ class UdpPath(Emulated):
 
 
 class SimulatedPath(Emulated):
-    """A test's network in simulated time."""
+    """Describes a test's network in simulated time."""
 
     def __init__(self, net: VariedNetwork, history: Path, own: frozenset[str] = frozenset()) -> None:
         super().__init__(history, own)
-        self.net, self.faults = net, net.faults
+        self.net = net
+        self.faults = net.faults
 
     def end(self) -> None:
         try:
@@ -181,15 +198,18 @@ class SimulatedPath(Emulated):
         return self.net.idle() if self.net.chosen is None else []
 
     def is_disturbed(self) -> Optional[bool]:
-        """Returns whether a packet was lost, found a full queue, or was delayed or doubled beyond its link's words; None without
-        packets."""
+        """Returns whether a link disturbed a packet: lost the packet, had a full queue or no target, doubled the packet, or delayed
+        the packet by a jitter or a fault. A link with `copies` always counts as disturbed. None: no packet came."""
         links = self.net.links.values()
-        counts = [sum(link.outcomes[place] for link in links) for place in Outcome]
-        has_more = any(link.copies is not None or link.pipes for link in links) or bool(self.net.happened)
-        return bool(sum(counts[1:])) or has_more if any(counts) else None
+        successes, *others = [sum(link.outcomes[outcome] for link in links) for outcome in Outcome]
+        if not successes and not any(others):
+            return None
+        has_copies = any(link.copies is not None or link.pipes for link in links)
+        return any(others) or has_copies or bool(self.net.happened)
 
     def chosen(self) -> Faults:
-        """Returns the links' faults: the requested faults, or otherwise the losses and the seed's draws."""
+        """Returns the faults of the run: the faults that an option or a search chose, or otherwise the links' losses and the seed's
+        draws."""
         return Faults(*self.net.faults_met()) if self.net.chosen is None else self.net.chosen
 
     def report(self) -> str:
@@ -207,7 +227,7 @@ class SimulatedPath(Emulated):
 
 
 class NetOfTest(Emulated):
-    """A test's net. A net that never started is lawful."""
+    """Describes a test's net of hosts. A net that never started counts as lawful."""
 
     def __init__(self, net: Net, own: frozenset[str] = frozenset()) -> None:
         super().__init__(net.history, own)
@@ -226,24 +246,33 @@ class NetOfTest(Emulated):
         self.verdict = None if self.history.exists() else "lawful, since the net didn't begin"
 
     def named(self, line: str) -> str:
-        """Returns a line with hosts' names instead of addresses."""
+        """Returns a line with the names of hosts in place of their addresses."""
         names = {address: name for name, own in self.net.addresses().items() for address in own}
         return ADDRESS.sub(lambda result: names.get(result[0], result[0]), line)
 
     def report(self) -> str:
         if not self.history.exists():
             return self.net.told() or "the net didn't begin"
-        changes = [f"  {one.seconds:.6f} s, changed: {one.line}" for one in self.net.obeyed]
-        message = [
-            f"{name} printed last ({self.log(name)}):\n{text}"
-            for name in self.net.addresses()
-            if (text := self.net.last_lines(name))
-        ]
+        changes = [f"  {change.seconds:.6f} s, changed: {change.line}" for change in self.net.obeyed]
         losses = [self.named(line) for line in dropped_in_history(self.history)]
-        return "\n".join([self.net.told(), *changes, *losses, *message, closing(self.net.drawn_seed(), self.verdict, self.history)])
+        outputs = list[str]()
+        for name in self.net.addresses():
+            text = self.net.last_lines(name)
+            if text:
+                outputs.append(f"{name} printed last ({self.log(name)}):\n{text}")
+        return "\n".join([self.net.told(), *changes, *losses, *outputs, closing(self.net.drawn_seed(), self.verdict, self.history)])
 
     def log(self, host: str) -> Path:
         return self.net.folder / "logs" / f"{host}.log"
+
+
+def report_of_link(link: Emulated) -> str:
+    """Ends a link; returns its report."""
+    try:
+        link.finish()
+        return link.report()
+    except Exception as fault:
+        return no_report(fault)
 
 
 def no_report(fault: Exception) -> str:
@@ -252,5 +281,5 @@ def no_report(fault: Exception) -> str:
 
 
 def closing(seed: int, verdict: Optional[str], history: Path) -> str:
-    """Returns the last line of a report, with advice on repetition and details."""
+    """Returns the last line of a report: the seed, the verdict, and the command that shows the history."""
     return f"seed {seed}, {verdict}: hinge look {history}"

@@ -1,5 +1,5 @@
-"""Runs of a test in simulated time with other faults and seeds, in the same process: the smallest set of faults that makes the test
-fail, shrunk like in `hinge search`, and a search for such faults."""
+"""Repeats a test in simulated time, in the same process, with other faults and seeds: to shrink a failure's faults to the fewest,
+as `hinge search` does, and to search for faults with which a passing test fails."""
 
 from __future__ import annotations
 
@@ -17,14 +17,16 @@ from hinge.searches.case import Case, Part, least
 from hinge.testing.emulated import SimulatedPath
 from hinge.testing.marks import Variation, variation_of, vary_of
 
-LEAST, SEARCHED = "least faults", "hingetulip searched"  # of a section, and of a property
+LEAST = "least faults"  # the title of a report's section
+SEARCHED = "hingetulip searched"  # the key of a report's property
 ALL = {"delay": "5..100ms", "jitter": "80ms", "phase": "1s", "drift": "100ppm", "skew": "2s", "duplicates": "2%", "cuts": "1..3s"}
-VARIATIONS = variation_of({"jitter": "300ms"}), variation_of(ALL)  # of tests without a mark `vary`, in turn
+VARIATIONS = variation_of({"jitter": "300ms"}), variation_of(ALL)  # the variations of tests without a mark `vary`, in turn
 
 
 @dataclass(frozen=True)
 class Trial:
-    """The faults and the seed of a run, in place of the marks' and the command line's."""
+    """Describes a run of a test. `faults` replace the links' losses and the seed's draws; `seed` and `variation` replace the
+    command line's seed and the mark's variation, if given."""
 
     faults: Optional[Faults] = None
     seed: Optional[int] = None
@@ -35,28 +37,32 @@ class Trial:
 
 
 def trial_of(item: pytest.Item) -> Trial:
-    """Returns a test's trial: from a current shrinking or search, or otherwise the command line's faults."""
+    """Returns the trial that a shrinking or a search is making of a test; otherwise a trial with the command line's faults."""
+    if TRIED in item.stash:
+        return item.stash[TRIED]
     path = item.config.getoption("--link-faults")
-    return item.stash[TRIED] if TRIED in item.stash else Trial(None if path is None else read_faults(path))
+    return Trial() if path is None else Trial(read_faults(path))
 
 
 def failure(reports: Sequence[pytest.TestReport]) -> Optional[pytest.TestReport]:
+    """Returns the report on the test's body, if the body failed."""
     return next((report for report in reports if report.when == "call" and report.failed), None)
 
 
 def place_of(report: Optional[pytest.TestReport]) -> Optional[str]:
-    """Returns the place of a test's failure. Runs that fail at the same place count as the same failure."""
+    """Returns the file and line of a test's failure, if any. Runs that fail at the same place count as the same failure."""
     crash = getattr(getattr(report, "longrepr", None), "reprcrash", None)
     return None if crash is None else f"{crash.path}:{crash.lineno}"
 
 
 class Trials:
-    """Silent runs of a test."""
+    """Runs a test any number of times, without a report to the user."""
 
     def __init__(self, item: pytest.Item, nextitem: Optional[pytest.Item]) -> None:
-        self.item, self.nextitem = item, nextitem
+        self.item = item
+        self.nextitem = nextitem
         self.count = 0
-        self.place: Optional[str] = None  # of the failure that is looked for
+        self.place: Optional[str] = None  # the place of the failure that trials look for
 
     def run(self, trial: Optional[Trial] = None) -> list[pytest.TestReport]:
         if trial is not None:
@@ -69,17 +75,18 @@ class Trials:
                 del self.item.stash[TRIED]
 
     def fails(self, trial: Trial) -> bool:
-        """Returns whether the test fails, at the same place as before if it failed before."""
+        """Runs the test with this trial; returns whether the test fails at the same place as in the first failing run."""
         place = place_of(failure(self.run(trial)))
         self.place = self.place or place
         return place is not None and place == self.place
 
     def network(self) -> SimulatedPath:
-        """Returns the links of the last run."""
+        """Returns the simulated network of the last run."""
         return next(link for link in self.item.stash[LINKS] if isinstance(link, SimulatedPath))
 
     def shrunk(self, trial: Trial) -> Optional[Faults]:
-        """Returns the fewest faults with which the test fails; None if it doesn't fail with these faults."""
+        """Returns the fewest of the last run's faults with which the test still fails. None: these faults alone don't make the test
+        fail."""
         verdicts: dict[Case, bool] = {}
 
         def fails(case: Case) -> bool:
@@ -89,10 +96,12 @@ class Trials:
             return verdicts[case]
 
         whole = Case(0, (), tuple(Part("losses", (str(fault),)) for fault in self.network().chosen()))
-        return Drawn(*(line for part in least(whole, fails).parts for line in part.what)) if fails(whole) else None
+        if not fails(whole):
+            return None
+        return Drawn(*(line for part in least(whole, fails).parts for line in part.what))
 
-    def drawn(self, runs: int) -> Optional[Trial]:
-        """Returns faults that hypothesis finds and shrinks."""
+    def trial_by_hypothesis(self, runs: int) -> Optional[Trial]:
+        """Returns a trial with faults that hypothesis found and shrank, if the test failed in one of about `runs` runs."""
         from hypothesis import HealthCheck, errors, find, settings
 
         net = self.network().net
@@ -101,25 +110,27 @@ class Trials:
         kinds = some_faults(*links, packets=min(60, max(link.came for link in net.links.values())))
         if hosts:
             kinds |= some_faults(*links, hosts=hosts, seconds=max(1, int(net.loop.time())))
-        how: Any = settings(max_examples=runs, database=None, deadline=None, suppress_health_check=list(HealthCheck))
+        options: Any = settings(max_examples=runs, database=None, deadline=None, suppress_health_check=list(HealthCheck))
         try:
-            return Trial(find(kinds, lambda faults: self.fails(Trial(faults)), settings=how, random=Random(1)))
+            return Trial(find(kinds, lambda faults: self.fails(Trial(faults)), settings=options, random=Random(1)))
         except errors.NoSuchExample:
             return None
 
-    def by_seeds(self, runs: int) -> Iterator[Trial]:
+    def trials_by_seeds(self, runs: int) -> Iterator[Trial]:
+        """Yields a trial for each seed, with the mark's variation or otherwise with VARIATIONS in turn."""
         own = vary_of(self.item)
         for seed in range(1, runs + 1):
             yield Trial(seed=seed, variation=own if str(own) else VARIATIONS[seed % len(VARIATIONS)])
 
-    def found(self, runs: int) -> Optional[Trial]:
-        """Returns faults that make a passing test fail."""
+    def failing_trial(self, runs: int) -> Optional[Trial]:
+        """Returns a trial with which a passing test fails: with hypothesis's faults, or otherwise with a seed. None: no packet came
+        to a link, or each trial passes."""
         if not any(link.came for link in self.network().net.links.values()):
             return None
-        trial = self.drawn(runs)
-        if trial is None:
-            trial = next((it for it in self.by_seeds(runs) if self.fails(it)), None)
-        return trial
+        trial = self.trial_by_hypothesis(runs)
+        if trial is not None:
+            return trial
+        return next((trial_of_seed for trial_of_seed in self.trials_by_seeds(runs) if self.fails(trial_of_seed)), None)
 
 
 def text_of(faults: Faults, count: int, trials: Trials) -> str:
@@ -127,7 +138,7 @@ def text_of(faults: Faults, count: int, trials: Trials) -> str:
 
 
 def reports_with_least(item: pytest.Item, nextitem: Optional[pytest.Item]) -> list[pytest.TestReport]:
-    """Returns the reports of a test's run. For a failed test they contain the fewest faults that make it fail."""
+    """Runs a test; returns the reports. The report on a failure lists the fewest faults with which the test fails."""
     trials = Trials(item, nextitem)
     result = trials.run()
     report = failure(result)
@@ -141,15 +152,16 @@ def reports_with_least(item: pytest.Item, nextitem: Optional[pytest.Item]) -> li
 
 
 def reports_of_search(item: pytest.Item, nextitem: Optional[pytest.Item], runs: int) -> list[pytest.TestReport]:
-    """Returns the reports of a test's run. If the test passes, and a search finds faults that make it fail, the reports are from a
-    run with the fewest faults."""
+    """Runs a test; returns the reports. If the test passes, searches for faults with which the test fails, and returns the reports
+    on a run with the fewest such faults."""
     trials = Trials(item, nextitem)
     result = trials.run()
     if not all(report.passed for report in result):
         return result if failure(result) is None else reports_with_least(item, nextitem)
-    trial = trials.found(runs)
+    trial = trials.failing_trial(runs)
     if trial is None:
-        next(it for it in result if it.when == "call").user_properties.append((SEARCHED, f"no failure in {trials.count} runs"))
+        body = next(report for report in result if report.when == "call")
+        body.user_properties.append((SEARCHED, f"no failure in {trials.count} runs"))
         return result
     if trial.faults is None:
         trial = Trial(trials.shrunk(trial), trial.seed, trial.variation)

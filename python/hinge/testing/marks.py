@@ -1,4 +1,4 @@
-"""The marks of a test. Unknown words in a mark are refused, since the test would otherwise use another link than intended."""
+"""The marks of a test. A mark with an unknown word is refused, since the test would otherwise use another link than intended."""
 
 from __future__ import annotations
 
@@ -27,14 +27,15 @@ class WrongMark(ValueError):
 
 
 class Ends(NamedTuple):
-    """The words for the link's two ways; both may be equal."""
+    """Holds the words of a link's two ways (directions). If `back` is None, both ways have the words of `there`."""
 
     there: str
     back: Optional[str]
 
 
 def words_of(options: Mapping[str, object]) -> str:
-    """Returns a link's words for another tool's options, such as bw="10Mbit/s"; an empty text if they are none."""
+    """Translates another tool's options, such as bw="10Mbit/s", into a link's words. Returns an empty text if an option or a value
+    is unknown."""
     from hingetulip_words.advice import OPTIONS_OF, OTHER_NAMES
     from hingetulip_words.link import WordError, as_words, read_link
 
@@ -59,32 +60,41 @@ def unknown(keywords: Mapping[str, object], there: object) -> WrongMark:
     name = next(iter(keywords))
     near = difflib.get_close_matches(name, TAKES, 1)
     words = words_of(keywords)
-    whole = f'"{there} {words}"' if there and words else f'"{words}"' if words else ""
-    right = f"write {near[0]}=.." if near else f"write link({whole or SAMPLE})"
-    return WrongMark(f"the mark link takes no {name!r}; {right}")
+    if near:
+        advice = f"write {near[0]}=.."
+    elif not words:
+        advice = f"write link({SAMPLE})"
+    elif there:
+        advice = f'write link("{there} {words}")'
+    else:
+        advice = f'write link("{words}")'
+    return WrongMark(f"the mark link takes no {name!r}; {advice}")
 
 
 def ends_of(mark: pytest.Mark) -> Ends:
-    """Returns the words of a `link` mark. WrongMark: the mark has other arguments. ValueError: there is no such preset."""
+    """Returns the words of a `link` mark. WrongMark: the mark's arguments aren't texts for the two ways or a preset. ValueError:
+    there is no such preset."""
     if len(mark.args) > 2:
         raise WrongMark(
             f"the mark link has {len(mark.args)} texts, and takes one for the way there and one for the way back;"
             f" write all words of a way in one text, as link({SAMPLE})"
         )
     there, back = (*mark.args, None, None)[:2]
-    if others := {name: value for name, value in mark.kwargs.items() if name not in TAKES}:
+    others = {name: value for name, value in mark.kwargs.items() if name not in TAKES}
+    if others:
         raise unknown(others, there)
     if "back" in mark.kwargs and back is not None:
         raise WrongMark("the mark link has the way back twice; leave one of them out")
-    back, preset = mark.kwargs.get("back", back), mark.kwargs.get("preset")
-    for one in (there, back, preset):
-        if one is not None and not isinstance(one, str):
-            raise WrongMark(f"the mark link takes texts, and {one!r} is none; write link({SAMPLE})")
+    back = mark.kwargs.get("back", back)
+    preset = mark.kwargs.get("preset")
+    for argument in (there, back, preset):
+        if argument is not None and not isinstance(argument, str):
+            raise WrongMark(f"the mark link takes texts, and {argument!r} is none; write link({SAMPLE})")
     if preset is not None:
         from hingetulip_words.presets import either_way
 
         return Ends(*either_way(preset, there, back))
-    if not any((one or "").strip() for one in (there, back)):
+    if not any((words or "").strip() for words in (there, back)):
         raise WrongMark(f"the mark link has no words of a link; write link({SAMPLE})")
     return Ends(there or "", back)
 
@@ -97,7 +107,7 @@ def link_of(item: pytest.Item) -> Ends:
 
 @dataclass(frozen=True)
 class Span:
-    """Seconds from the least to the most."""
+    """Describes a range of numbers (mostly seconds) with its text in the mark."""
 
     low: float
     high: float
@@ -107,27 +117,29 @@ class Span:
         return self.text
 
     def drawn(self, random: Random) -> float:
+        """Draws a number from the range."""
         return random.uniform(self.low, self.high)
 
     def ms(self, random: Random) -> int:
+        """Draws a time in whole milliseconds."""
         return random.randint(round(self.low * 1000), round(self.high * 1000))
 
 
 @dataclass(frozen=True)
 class Variation:
-    """The words of a `vary` mark."""
+    """Holds the spans of a `vary` mark, from which the seed draws."""
 
-    delay: Optional[Span] = None  # of each link
-    jitter: Optional[Span] = None  # of each packet, more
-    phase: Optional[Span] = None  # after which a task of a host begins
+    delay: Optional[Span] = None  # the delay of each link
+    jitter: Optional[Span] = None  # each packet's further delay
+    phase: Optional[Span] = None  # the delay of each host's task at its begin
     drift: Optional[Span] = None  # s that the clock of a host gains in a second
     duplicates: Optional[Span] = None  # the rate at which a packet comes twice
     skew: Optional[Span] = None  # s by which the clock of a host is ahead
-    # In turn for how long none is cut off, held or crashed, and for how long one is:
-    cuts: Optional[Span] = None  # a host
-    one_way_cuts: Optional[Span] = None  # a link
-    holds: Optional[Span] = None  # a link
-    crashes: Optional[Span] = None  # a host that has what to boot
+    # Each act of these kinds begins after a time from the span, and lasts for another time from the span.
+    cuts: Optional[Span] = None  # a cut of a host with links
+    one_way_cuts: Optional[Span] = None  # a cut of a link
+    holds: Optional[Span] = None  # a link that holds its packets
+    crashes: Optional[Span] = None  # a crash of a host with a program of `host.boot`
 
     def __str__(self) -> str:
         """Returns the words of the mark."""
@@ -138,14 +150,15 @@ NAMES = tuple(each.name for each in fields(Variation))
 
 
 def span_of(name: str, text: object) -> Span:
-    """Reads a span such as `5..100ms`; `80ms` begins at 0, or for a skew at -80ms. Drifts are like `100ppm`, rates like `1%`.
-    ValueError: the text is no span."""
+    """Reads a span such as `5..100ms`; `80ms` begins at 0. A drift such as `100ppm` or a skew such as `2s` may also be negative,
+    and a rate such as `1%` is exact. ValueError: the text is no span."""
     if name in OTHER_SPANS:
         form, scale, sample = OTHER_SPANS[name]
         match = re.fullmatch(form, str(text))
         if match:
             high = float(match[1]) * scale
-            return Span(-high, high, str(text)) if name != "duplicates" else Span(high, high, str(text))
+            low = high if name == "duplicates" else -high
+            return Span(low, high, str(text))
         raise ValueError(f"the mark vary: {name} {text!r} isn't a {name}; write {name}='{sample}'")
     match = SPAN.fullmatch(str(text))
     if match:
@@ -158,7 +171,7 @@ def span_of(name: str, text: object) -> Span:
 
 
 def variation_of(words: Mapping[str, object]) -> Variation:
-    """Returns the variation. ValueError: a word is unknown, or its value is no span."""
+    """Reads the words of `vary` marks. ValueError: a word is unknown, or its value is no span."""
     for name in words:
         if name not in NAMES:
             import difflib
@@ -169,7 +182,7 @@ def variation_of(words: Mapping[str, object]) -> Variation:
 
 
 def vary_of(item: pytest.Item) -> Variation:
-    """Returns the variation of a test's `vary` marks; the nearest mark wins. WrongMark: an argument has no name."""
+    """Returns the variation of a test's `vary` marks; the nearest mark decides on a word. WrongMark: an argument has no name."""
     marks = list(item.iter_markers("vary"))
     if any(mark.args for mark in marks):
         raise WrongMark("the mark vary takes spans by their names alone, as vary(delay='5..100ms')")
@@ -177,27 +190,36 @@ def vary_of(item: pytest.Item) -> Variation:
 
 
 def allowed_of(item: pytest.Item) -> tuple[str, ...]:
-    """Returns the names of calls that may be real. WrongMark: a `real` mark contains no name, or a wrong name."""
+    """Returns the names in a test's `real` marks; a call may be real if its name contains one of them. WrongMark: a mark contains
+    no name, or an argument that is no name."""
     marks = list(item.iter_markers("real"))
-    if any(mark.kwargs or not mark.args or not all(isinstance(it, str) and it for it in mark.args) for mark in marks):
-        raise WrongMark("the mark real takes names of what may be real, as real('libpq')")
+    for mark in marks:
+        if mark.kwargs or not mark.args or not all(isinstance(name, str) and name for name in mark.args):
+            raise WrongMark("the mark real takes names of what may be real, as real('libpq')")
     return tuple(name for mark in marks for name in mark.args)
+
+
+def words_in(mark: pytest.Mark) -> list[str]:
+    """Returns the names of a `vary` mark's spans, or `link` for a `link` mark."""
+    if mark.name == "vary":
+        return list(mark.kwargs)
+    return ["link"] if mark.name == "link" else []
 
 
 def own_words(item: pytest.Item) -> frozenset[str]:
     """Returns `link` and the words of `vary` from the test's marks, without those of its class or module."""
-    marks = [mark for mark in getattr(item, "own_markers", ()) if mark.name in ("link", "vary")]
-    return frozenset(word for mark in marks for word in (mark.kwargs if mark.name == "vary" else ("link",)))
+    return frozenset(word for mark in getattr(item, "own_markers", ()) for word in words_in(mark))
 
 
 def shared_words(item: pytest.Item) -> dict[str, str]:
-    """Returns the words that only marks of a test's class or module contain, and the place of the nearest such mark."""
-    own, found = own_words(item), dict[str, str]()
+    """Returns the words that only marks of a test's class or module contain, each with the place of the nearest such mark."""
+    own = own_words(item)
+    places = dict[str, str]()
     for node, mark in item.iter_markers_with_node():
-        for word in mark.kwargs if mark.name == "vary" else (["link"] if mark.name == "link" else []):
+        for word in words_in(mark):
             if node is not item and word not in own:
-                found.setdefault(word, getattr(node, "nodeid"))
-    return found
+                places.setdefault(word, getattr(node, "nodeid"))
+    return places
 
 
 def fault_of(item: pytest.Item) -> Optional[str]:
@@ -215,7 +237,7 @@ def fault_of(item: pytest.Item) -> Optional[str]:
 
 
 def unused(item: pytest.Item) -> Iterator[str]:
-    """Yields a warning for each of a test's marks without effect."""
+    """Yields a warning for each of the test's own marks without effect."""
     own = {mark.name for mark in getattr(item, "own_markers", ())}
     names = getattr(item, "fixturenames", ())
     takes_link = any(name in FIXTURES for name in names) or item.get_closest_marker("simulated") is not None

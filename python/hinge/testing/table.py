@@ -12,39 +12,49 @@ import pytest
 
 from hinge.testing.marks import allowed_of, shared_words, vary_of
 
-NAME, REAL, SHARED = "hingetulip", "hingetulip real", "hingetulip shared"  # of properties
-MOST_SEEDS = 12  # that a row lists
+NAME, REAL, SHARED = "hingetulip", "hingetulip real", "hingetulip shared"  # the keys of a report's properties
+MOST_SEEDS = 12  # the number of failing seeds that a row lists
 UNDISTURBED = "in no test was a packet lost, late or out of order: let links lose packets, as 'loss 1%', or use the mark vary"
 
 
 def told(calls: Mapping[str, int]) -> str:
-    """Returns the count of real calls, such as `0 calls were real`."""
+    """Returns the number of real calls as text, such as `2 calls were real: connect 2`."""
     count = sum(calls.values())
     text = f"{count} {'call was' if count == 1 else 'calls were'} real"
-    return f"{text}: {', '.join(f'{name} {number}' for name, number in calls.items())}" if calls else text
+    if not calls:
+        return text
+    numbers = ", ".join(f"{name} {number}" for name, number in calls.items())
+    return f"{text}: {numbers}"
 
 
 def reals() -> list[tuple[str, Any]]:
-    """Returns the real calls for the report of a test in simulated time."""
+    """Returns a property for a test's report with the process's real calls since the last report, if anything ran in simulated
+    time."""
     module = sys.modules.get("hingetulip.aio.real")  # which a suite without links needn't import
-    if module is None or not (whole := module.OF_PROCESS.taken()).runs:
+    if module is None:
+        return []
+    whole = module.OF_PROCESS.taken()
+    if not whole.runs:
         return []
     return [(REAL, {"calls": dict(whole.calls), "refused": whole.refused, "unwatched": module.UNWATCHED})]
 
 
 def refused_reals(item: pytest.Item, calls: Mapping[str, int]) -> str:
-    """Returns why a test fails that passed with real calls which no mark `real` allows; an empty text without such calls."""
+    """Returns the reason why a test fails whose real calls no mark `real` allows; an empty text without such calls. Warns of names
+    in the marks that no real call contains."""
     names = allowed_of(item)
     rest = {call: count for call, count in calls.items() if not any(name in call for name in names)}
     for name in names:
         if not any(name in call for call in calls):
             item.warn(pytest.PytestWarning(f"the mark real allows {name!r}, and no call that was real has that name"))
-    sample = next(iter(rest), "").split(" ")[0]
-    return f"{told(rest)}; if that may be, write @pytest.mark.real({sample!r}), or set `real` of the network" if rest else ""
+    if not rest:
+        return ""
+    sample = next(iter(rest)).split(" ")[0]
+    return f"{told(rest)}; if that may be, write @pytest.mark.real({sample!r}), or set `real` of the network"
 
 
 def row_of(item: pytest.Item, seed: int, links: Sequence[Any]) -> list[tuple[str, Any]]:
-    """Returns the row for the table, if the test's simulated network carried a packet."""
+    """Returns a property with the test's row for the table, if the test's simulated network carried a packet."""
     states = [link.is_disturbed() for link in links if hasattr(link, "is_disturbed")]
     if not states or states[0] is None:
         return []
@@ -58,7 +68,8 @@ def row_of(item: pytest.Item, seed: int, links: Sequence[Any]) -> list[tuple[str
 
 
 def met_of(item: pytest.Item, links: Sequence[Any]) -> list[tuple[str, Any]]:
-    """Returns the unmet marks of a test's class or module for its report: each mark's place, word and reason."""
+    """Returns a property about the marks of a test's class or module: for each word, the mark's place, the word, and the reasons
+    why the word had no effect. No reason: the word had an effect."""
     words = shared_words(item) if any(hasattr(link, "is_disturbed") for link in links) else {}
     rows = [(node, word, [line for link in links for line in link.unmet_words([word])]) for word, node in words.items()]
     return [(SHARED, rows)] if rows else []
@@ -66,20 +77,24 @@ def met_of(item: pytest.Item, links: Sequence[Any]) -> list[tuple[str, Any]]:
 
 @dataclass
 class Sweep:
-    """A test's seeds, and its failing seeds."""
+    """Holds the seeds of a test's runs, and the failing seeds."""
 
     varied: str
     seeds: list[int] = field(default_factory=list)
     failed: list[int] = field(default_factory=list)
 
     def text(self) -> str:
-        more = f" and {len(self.failed) - MOST_SEEDS} more" if len(self.failed) > MOST_SEEDS else ""
-        numbers = f": {', '.join(map(str, sorted(self.failed)[:MOST_SEEDS]))}{more}" if self.failed else ""
-        return f"{len(self.failed)} of {len(self.seeds)} seeds failed{numbers}{f' ({self.varied})' if self.varied else ''}"
+        """Returns a text such as `2 of 20 seeds failed: 3, 7`."""
+        text = f"{len(self.failed)} of {len(self.seeds)} seeds failed"
+        if self.failed:
+            text += f": {', '.join(map(str, sorted(self.failed)[:MOST_SEEDS]))}"
+        if len(self.failed) > MOST_SEEDS:
+            text += f" and {len(self.failed) - MOST_SEEDS} more"
+        return f"{text} ({self.varied})" if self.varied else text
 
 
 class Table:
-    """Collects rows from the reports of tests, including pytest-xdist's workers."""
+    """Collects properties from the reports of tests, including pytest-xdist's workers, and prints the table."""
 
     def __init__(self) -> None:
         self.sweeps: dict[str, Sweep] = {}
@@ -88,22 +103,24 @@ class Table:
         self.calls = Counter[str]()
         self.refused = 0
         self.unwatched = list[str]()
-        self.searched: dict[str, str] = {}  # what a search found of each test
-        self.shared = dict[
-            tuple[str, str], list[str]
-        ]()  # why words of marks of modules met nothing in any test; empty of one that did
+        self.searched: dict[str, str] = {}  # the result of the search for each test
+        # Why a word in a module's or class's mark had no effect in any test; an empty list if the word had an effect.
+        self.shared = dict[tuple[str, str], list[str]]()
 
     def pytest_runtest_logreport(self, report: pytest.TestReport) -> None:
         properties: dict[str, Any] = dict(report.user_properties)
-        if real := properties.get(REAL):
-            self.tests += report.when == "call"
+        is_passed_call = report.when == "call" and report.passed
+        real = properties.get(REAL)
+        if real:
+            self.tests += 1 if report.when == "call" else 0
             self.calls.update(real["calls"])
             self.refused += real["refused"]
             self.unwatched = self.unwatched or real["unwatched"]
-        if search := properties.get("hingetulip searched"):
-            self.searched[report.nodeid] = search
-        for node, word, lines in properties.get(SHARED, ()) if report.when == "call" and report.passed else ():
-            self.shared[node, word] = lines and self.shared.get((node, word), lines)
+        if "hingetulip searched" in properties:
+            self.searched[report.nodeid] = properties["hingetulip searched"]
+        rows_of_marks = properties.get(SHARED, ()) if is_passed_call else ()
+        for node, word, reasons in rows_of_marks:
+            self.shared[node, word] = self.shared.get((node, word), reasons) if reasons else []
         row = properties.get(NAME) if report.when == "call" else None
         if not isinstance(row, dict):
             return
@@ -111,10 +128,11 @@ class Table:
         if row["is_swept"]:
             sweep = self.sweeps.setdefault(row["name"], Sweep(row["varied"]))
             sweep.seeds.append(row["seed"])
-            sweep.failed += [row["seed"]] * report.failed
+            if report.failed:
+                sweep.failed.append(row["seed"])
 
     def pytest_sessionfinish(self, session: Any) -> None:
-        """A module's or class's mark that had no effect in any test fails the session."""
+        """Fails the session if a module's or class's mark had no effect in any test."""
         if any(self.shared.values()) and not session.exitstatus and not hasattr(session.config, "workerinput"):
             session.exitstatus = pytest.ExitCode.TESTS_FAILED
 

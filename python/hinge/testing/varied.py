@@ -1,6 +1,6 @@
-"""A test network varied by its seed.
+"""A test's network that the seed varies.
 
-With losses only, all tasks run in step: no period ever meets another one differently."""
+Without variation all tasks run in step, so that two periodic tasks always meet in the same order."""
 
 from __future__ import annotations
 
@@ -15,8 +15,8 @@ from hingetulip.aio import Host, Link
 from hingetulip.aio.extra import IsTwice, LateOf
 
 T = TypeVar("T")
-MOST_CUTS = 30  # of a run, whose last timer ends so that a test that waits for nothing is noticed
-KINDS = {  # of the acts that words draw, and of what they are
+MOST_CUTS = 30  # a run's most acts of a kind; the timers end, so that a test which waits for no event is noticed
+KINDS = {  # for each word that draws acts, the kind of act and of its target
     "cuts": (CUT, "host with links"),
     "one_way_cuts": (CUT, "link"),
     "holds": (HOLD, "link"),
@@ -25,16 +25,20 @@ KINDS = {  # of the acts that words draw, and of what they are
 
 
 class VariedHost(Host):
-    """A host whose tasks begin later."""
+    """Describes a host whose tasks each begin after a time that the seed draws, their phase."""
 
     net: VariedNetwork
 
     def create_task(self, coroutine: Coroutine[Any, Any, T], *, name: Optional[str] = None) -> asyncio.Task[T]:
-        phase, self.net.begun = self.net.variation.phase, self.net.begun + 1
-        return super().create_task(coroutine if phase is None else begun(coroutine, phase.drawn(self.net.drawn)), name=name)
+        self.net.begun += 1
+        phase = self.net.variation.phase
+        if phase is not None:
+            coroutine = delayed(coroutine, phase.drawn(self.net.drawn))
+        return super().create_task(coroutine, name=name)
 
 
-async def begun(coroutine: Coroutine[Any, Any, T], phase: float) -> T:
+async def delayed(coroutine: Coroutine[Any, Any, T], phase: float) -> T:
+    """Runs a coroutine after `phase` seconds; returns its result."""
     try:
         await asyncio.sleep(phase)
     except asyncio.CancelledError:
@@ -44,8 +48,8 @@ async def begun(coroutine: Coroutine[Any, Any, T], phase: float) -> T:
 
 
 class VariedNetwork(FaultyNetwork):
-    """A network that its seed varies. The draws don't depend on the losses of links, so that a run with fewer losses is varied
-    alike. The effects of cuts, jitter and the like are faults, and a run with given faults replaces them."""
+    """Describes a network that the seed varies by the words of a `vary` mark. The draws don't depend on the links' losses, so that
+    a run with fewer losses has the same variation. A run with chosen faults draws no faults, such as cuts, jitter and skews."""
 
     def __init__(self, variation: Variation, *words: Any, **more: Any) -> None:
         super().__init__(*words, **more)
@@ -53,7 +57,7 @@ class VariedNetwork(FaultyNetwork):
         self.drawn = Random(f"vary {self.seed}")
         self.drawn_acts: dict[str, list[Act]] = {word: [] for word in KINDS}
         self.skews: list[Act] = []
-        self.begun = 0  # tasks of hosts
+        self.begun = 0  # the number of the hosts' tasks
         for word in KINDS if self.chosen is None else ():
             if getattr(variation, word) is not None:
                 self._act_next(word, Random(f"{word} {self.seed}"), MOST_CUTS)
@@ -76,52 +80,54 @@ class VariedNetwork(FaultyNetwork):
 
     def drawn_of(self, link: Link) -> tuple[Optional[LateOf], Optional[IsTwice]]:
         late, is_twice = super().drawn_of(link)
-        span = self.variation.jitter
+        jitter = self.variation.jitter
         rate = self.variation.duplicates
-        near = link.near
-        far = link.far
-        random = Random(f"{self.seed} {near} > {far}" if span is None else self.drawn.getrandbits(64))
-        of_copies = Random(random.getstate()[1][0])
-        own_late = late
-        own_twice = is_twice
-        if self.chosen is None and span is not None:
-            ms_of = span.ms
-            late = lambda number: ms_of(random) + (own_late(number) if own_late else 0)
-        if self.chosen is None and rate is not None:
+        random = Random(f"{self.seed} {link.near} > {link.far}" if jitter is None else self.drawn.getrandbits(64))
+        random_of_copies = Random(random.getstate()[1][0])
+        if self.chosen is not None:
+            return late, is_twice
+        varied_late = late
+        varied_twice = is_twice
+        if jitter is not None:
+            ms_of = jitter.ms
+            varied_late = lambda number: ms_of(random) + (late(number) if late else 0)
+        if rate is not None:
             chance = rate.high
-            is_twice = lambda number: of_copies.random() < chance or bool(own_twice and own_twice(number))
-        return late, is_twice
+            varied_twice = lambda number: random_of_copies.random() < chance or bool(is_twice and is_twice(number))
+        return varied_late, varied_twice
 
     def faults_met(self) -> list[Either]:
-        """Returns as faults all that the seed drew. A cut is reported as its lost packets."""
+        """Returns everything that the seed drew as faults. A cut is reported as the packets that it lost."""
         acts = [act for drawn in self.drawn_acts.values() for act in drawn if act.kind != CUT]
         return [*super().faults_met(), *self.skews, *sorted(acts)]
 
     def unvaried(self) -> dict[str, str]:
-        """Returns the words of the `vary` mark that can't have changed anything, with the reasons."""
+        """Returns the words of the `vary` mark that had no effect, each with the reason."""
         has_packet = any(link.came for link in self.links.values())
         has_look = any(host.looks for host in self.hosts.values())
-        lacking = {
-            **dict.fromkeys(("delay", "jitter", "duplicates"), "no packet came to a link" if not has_packet else ""),
-            "phase": ("no task is a host's" if not self.begun else ""),
-            **dict.fromkeys(("drift", "skew"), "no task of a host looked at `time.time()`" if not has_look else ""),
-        }
+        reasons = dict[str, str]()
+        if not has_packet:
+            reasons.update(dict.fromkeys(("delay", "jitter", "duplicates"), "no packet came to a link"))
+        if not self.begun:
+            reasons["phase"] = "no task is a host's"
+        if not has_look:
+            reasons.update(dict.fromkeys(("drift", "skew"), "no task of a host looked at `time.time()`"))
         now = self.loop.time()
-        for word, (_, of) in KINDS.items() if self.chosen is None else ():
+        for word, (_, target) in KINDS.items() if self.chosen is None else ():
             span = getattr(self.variation, word)
             if span is not None and not self.drawn_acts[word] and not span.low <= now <= span.high:
-                lacking[word] = f"the test ended at {now:g} s" if now < span.low else f"there is no {of}"
-        return {word: text for word, text in lacking.items() if text and getattr(self.variation, word) is not None}
+                reasons[word] = f"the test ended at {now:g} s" if now < span.low else f"there is no {target}"
+        return {word: reason for word, reason in reasons.items() if getattr(self.variation, word) is not None}
 
     def _targets(self, word: str) -> list[str]:
-        """Returns the possible targets of an act."""
+        """Returns the names of the links or hosts that this word's acts can affect."""
         if word in ("one_way_cuts", "holds"):
             return [link.name for link in self.links.values()]
         hosts = sorted(set(self.hosts.values()), key=lambda host: host.address)
         return [host.name for host in hosts if word != "crashes" or host.programs]
 
     def _act_next(self, word: str, random: Random, left: int) -> None:
-        """Carries out an act after a drawn time, and again until the count is used up."""
+        """Begins an act of this word after a drawn time, and then the next one, `left` acts in all."""
         span: Span = getattr(self.variation, word)
 
         def begin() -> None:
@@ -129,7 +135,8 @@ class VariedNetwork(FaultyNetwork):
                 return
             lasting = round(span.drawn(random), 9)
             targets = self._targets(word)
-            act = Act(self.loop.time(), KINDS[word][0], random.choice(targets) if targets else "", lasting)
+            target = random.choice(targets) if targets else ""
+            act = Act(self.loop.time(), KINDS[word][0], target, lasting)
             try:
                 self.act(act).is_drawn = True
                 self.drawn_acts[word].append(act)

@@ -151,10 +151,10 @@ class OfEnds(Simulated):
         """Of half a second, the machine may wait for a processor a fifth."""
         place = OneProcessor()
         place.allowed, place.present, place.seen = [0, 1, 2], 0, 0.0
-        self.assertEqual([place.is_left(0.4, 0.4), place.is_left(1.0, 0.19), place.present], [False, False, 0])
-        self.assertEqual([place.is_left(2.0, 0.41), place.present in (1, 2)], [True, True])
+        self.assertEqual([place.choose_again(0.4, 0.4), place.choose_again(1.0, 0.19), place.present], [False, False, 0])
+        self.assertEqual([place.choose_again(2.0, 0.41), place.present in (1, 2)], [True, True])
         place.allowed = [0]
-        self.assertFalse(place.is_left(3.0, 1.4))
+        self.assertFalse(place.choose_again(3.0, 1.4))
 
     def test_the_limit_of_real_time(self) -> None:
         done = self.started("--up", "1ms", "--real-limit", "500ms", "--", *GOES_ON)

@@ -63,7 +63,7 @@ def refused(path, record):
     if sys.argv[2] == "another": pathlib.Path(path).write_text("another user's run")
     raise PermissionError(path)
 class Runner:
-    is_over, asked = False, SimpleNamespace(what=["run"], pauses=None)
+    is_over, settings = False, SimpleNamespace(what=["run"], pauses=None)
     def run(self, *words): return SummarizedRun(0, "", {"ended": {"name": "status 0"}})
 runs.write_json = refused
 Runs(pathlib.Path(sys.argv[1]), Runner()).make(1)
