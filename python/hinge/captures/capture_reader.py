@@ -56,7 +56,7 @@ def front_of(file: IO[bytes]) -> bytes:
 
 
 def unpack(name: str, archive: BinaryIO, plain: IO[bytes]) -> bool:
-    """Writes what gzip has compressed; returns whether the archive is whole."""
+    """Writes the content of a gzip archive to `plain`; returns whether the archive is complete."""
     source = Unpacked(name, archive)
     try:
         while part := source.read(PART):

@@ -27,7 +27,7 @@ FAULT, SYSTEM = 4, (5, 6)  # the statuses with which it ends in a fault, and whe
 
 
 class Frame(NamedTuple):
-    """The properties of a frame that rules use. A flow's frames differ only in their numbers."""
+    """The properties of a frame that rules look at. The frames of a flow differ only in their numbers."""
 
     number: int
     src: str
@@ -51,7 +51,8 @@ class FrameColumns(NamedTuple):
 
 
 class Packet(NamedTuple):
-    """An IP packet as a whole. `time` is in ns since 1970, `length` that of the IP packet, `headers` of IP and transport."""
+    """An IP packet. `time` is in ns since 1970. `length` is the IP packet's length, and `headers` the length of its IP and
+    transport headers."""
 
     frame: Frame
     time: int
@@ -82,7 +83,8 @@ class RowPlan(NamedTuple):
 
 
 class Capture:
-    """A capture that the program has read, and whose rows it will write. Its flows are in the order in which they begin."""
+    """A capture that the program hinge-packets has read, and whose rows the program will write. Flows are in the order of their
+    first frames."""
 
     def __init__(self, name: str, program: "Process[bytes]", by_frame: bool) -> None:
         self.name, self.program, self.read = name, program, cast(BinaryIO, program.stdout).read
@@ -94,7 +96,8 @@ class Capture:
         self.items = self.whole(FRAME.size * self.packet_count) if by_frame else None
 
     def whole(self, size: int, prefix: str = "") -> bytes:
-        """Returns `size` bytes of the program's answer. Fault, or the program's OSError: the program ended before."""
+        """Returns `size` bytes of the program's answer. Fault, or OSError if the system refused a call: the program ended
+        before."""
         data = self.read(size)
         if len(data) < size:
             text = cast(BinaryIO, self.program.stderr).read().decode(errors="replace")
@@ -125,7 +128,7 @@ class Capture:
             yield Packet(self.frame(number & (1 << 48) - 1, flow), (high << 64) + low, length, number >> 48)
 
     def asked(self) -> FrameColumns:
-        """Returns a frame of each flow."""
+        """Returns the properties of one frame for each flow."""
         flows = self.flows
         halves = array("H", self.flows)
         words = array("I", self.flows)
@@ -149,7 +152,8 @@ class Capture:
 
 @contextmanager
 def read_capture(capture: Input, plan: RowPlan, out: int, index: Optional[int] = None, by_frame: bool = False) -> Iterator[Capture]:
-    """Reads a capture; writes its rows to a descriptor, and their frame numbers to another."""
+    """Yields a capture that the program has read. `Capture.write` then writes the rows to descriptor `out`, and the rows' frame
+    numbers to `index`."""
     with ExitStack() as files:
         with untrusted(capture.name, what=NOT_VALID):
             source, is_whole = plain_capture(capture, files)

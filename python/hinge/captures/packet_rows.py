@@ -30,7 +30,7 @@ def warnings(meetings: Iterable[tuple[int, str, str]]) -> Iterator[str]:
 
 
 class ModelWords:
-    """Packet rows with words from models instead of random words."""
+    """Writes packet rows whose words, the numbers that decide about losses, come from models and aren't random."""
 
     def __init__(self, seed: int, models: dict[str, Maker]) -> None:
         """`models` contains the models for targets such as `pipe,1`; an empty name stands for all other targets."""
@@ -38,7 +38,7 @@ class ModelWords:
         self.words: dict[str, Optional[Words]] = {}
 
     def of(self, target: str) -> Optional[Words]:
-        """Returns the words for a target's packets, each from its model, or None if they are random."""
+        """Returns the words from a target's model, or None if the target's words are random."""
         if target not in self.words:
             make = self.models.get(target) or self.models.get("")
             self.words[target] = make(self.seed, direction_of(*target.split(","))) if make else None

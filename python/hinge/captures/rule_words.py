@@ -35,7 +35,7 @@ class RuleTarget(NamedTuple):
 
 
 class PortSpan(NamedTuple):
-    """Ports, both ends included."""
+    """A range of ports, which includes both ends."""
 
     low: int
     high: int
@@ -88,7 +88,7 @@ def number_of(text: str, most: int, what: str) -> int:
 
 
 class RuleReader:
-    """Takes the words of a rule from left to right into `short`."""
+    """Reads the words of a rule, from left to right, into the conditions `short`."""
 
     def __init__(self, words: list[str]) -> None:
         self.rest = list(words)
@@ -138,7 +138,8 @@ class RuleReader:
 
 
 def of_filter(text: str) -> str:
-    """Returns the words of a rule for a display filter of Wireshark that compares addresses and ports; else an empty text."""
+    """Translates a display filter of Wireshark that compares addresses and ports into words of a rule; returns an empty text for
+    any other text."""
     parts = filter(None, re.split(r"\s*(?:&&|\band\b)\s*", text))
     matches = [re.fullmatch(r"(ip|ipv6|tcp|udp)\.(addr|host|(?:src|dst|)(?:port)?) *(?:==|eq) *([\w.:/]+)", part) for part in parts]
     words = list[str]()

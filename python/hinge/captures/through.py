@@ -48,7 +48,7 @@ def arrivals(replay: Replay, frames: Integers) -> list[tuple[int, int]]:
 
 
 def refuse_other(capture: CaptureFile, frames: Integers) -> None:
-    """Fault: the index has a frame that the capture hasn't."""
+    """Refuses the index of another capture. Fault: the index contains a frame that the capture lacks."""
     if len(frames) and frames.max() > len(capture.records):
         raise Fault(f"the index has frame {frames.max()}, and the capture {len(capture.records)} frames", ROWS)
 
@@ -102,7 +102,8 @@ def write_commented(capture: CaptureFile, frames: Integers, tell: Callable[[int]
 
 
 def write_through(source: Source, capture_name: str, index: str, path: str) -> str:
-    """Writes the frames that arrive, at the moments at which they do, or all frames with a comment each; says how many."""
+    """Writes the frames that arrive, at their moments of arrival, or all frames with comments; returns a sentence that counts
+    them."""
     frames = frames_of_rows(index, source.replay)
     explainer = Explainer(source.explained()) if format_of(path) is Format.COMMENTED else None
     with capture_file(capture_name) as capture:

@@ -23,7 +23,7 @@ class HistoryRecords:
         self.is_whole = data.endswith((b"\n", b"\r"))
 
     def __iter__(self) -> Iterator[tuple[int, str]]:
-        """Reads the records anew each time, so that they need no memory."""
+        """Yields each record with its line's number. Reads the records anew each time, so that they need no memory."""
         for number, line in enumerate(io.TextIOWrapper(io.BytesIO(self.data), "utf-8", "replace"), 1):
             if line != "\n" and not (self.is_live and line.startswith("#")):
                 yield number, line.removesuffix("\n")

@@ -37,7 +37,7 @@ class Verdict(NamedTuple):
 
 
 def judged_part(line: Union[bytes, str]) -> bytes:
-    """Returns the part of a line that a live session accepts; in a file the comment may be longer. Exceeded: a command is."""
+    """Returns the part of a line that a live session accepts. Only a comment may be longer. Exceeded: the command is longer."""
     text = os.fsencode(line)
     text = re.sub(rb" +", b" ", text) if b"  " in text else text
     if len(text) > MOST_LINE_BYTES and b"#" not in text[:MOST_LINE_BYTES]:
@@ -46,14 +46,15 @@ def judged_part(line: Union[bytes, str]) -> bytes:
 
 
 def refuse_long(places: Iterable[str], lines: Iterable[str]) -> None:
-    """Fault: a line is too long for a live session; the message begins with its place."""
+    """Refuses lines that are too long for a live session. Fault: a line is too long; the message begins with the line's place."""
     for place, line in zip(places, lines):
         with untrusted(place, CONFIGURATION):
             judged_part(line)
 
 
 def session_of(lines: Iterable[Union[bytes, str]]) -> Iterator[str]:
-    """Yields the program's replies to lines in a single session, in which earlier lines affect later ones."""
+    """Yields the calls, replies and errors with which the program answers lines in a single session, in which earlier lines affect
+    later ones."""
     with unnamed() as (inputs, _):
         inputs.writelines(b" " + judged_part(line) + b"\n" for line in lines)  # with a blank before it no line is a call
         inputs.seek(0)
@@ -63,7 +64,8 @@ def session_of(lines: Iterable[Union[bytes, str]]) -> Iterator[str]:
 
 
 def judged_lines(lines: Iterable[Union[bytes, str]]) -> Iterator[Verdict]:
-    """Yields the verdict of each line with a command, on demand; the lines are read twice. Fault: the program's verdict is missing."""
+    """Yields the verdict on each line with a command, on demand. Reads the lines twice. Fault: the program gave no verdict on a
+    line."""
     records = session_of(lines)
     record = next(records, "")
     for number, line in enumerate(map(judged_part, lines), 1):
@@ -94,8 +96,8 @@ def corrected(line: str) -> Optional[str]:
 
 
 def refuse_wrong(texts: Sequence[str], numbers: Sequence[int], file: str, option: str = "") -> None:
-    """Fault: a line is no command; the message says the right words. `numbers` are line numbers in the file, or 0 for lines from the
-    option. Without the program the host refuses such a line later."""
+    """Refuses lines that aren't commands. `numbers` contains line numbers in the file, or 0 for lines from the option. If the
+    program is missing, the host refuses such a line later. Fault: a line is no command; the message says the right words."""
 
     def wrong(at: int, why: str) -> Fault:
         return Fault(f"{place(at)}: {why}", CONFIGURATION)

@@ -46,6 +46,7 @@ class Operation:
         return self.words.get("result", "")
 
     def anywhen(self) -> Operation:
+        """Returns the operation without a result, and without limits on its moment."""
         words = {name: text for name, text in self.words.items() if name != "result"}
         return replace(self, words=words, begin=ALWAYS, end=NEVER, values=())
 
@@ -58,7 +59,7 @@ class Operation:
 
 
 class Model:
-    """A register, with `null` before its first write. Other models differ in the words below and in `after`."""
+    """Describes a register, which contains `null` before the first write. Other models override the fields below and `after`."""
 
     words: dict[str, tuple[str, ...]] = {"write": ("value",), "read": ("result",)}
     makers: tuple[str, ...] = ("write",)  # operations after which the value is there
@@ -76,8 +77,8 @@ class Model:
         self.operations = [settled for operation in operations for settled in self.settled(operation)]
 
     def settled(self, operation: Operation) -> Iterator[Operation]:
-        """Decides the moment of an operation without an end. If no other operation wrote its value, the operation took effect
-        before the first result with that value; if no result contains the value, no order needs the operation."""
+        """Yields the operation, unless no order needs it. An operation without an end ends with the first result that contains its
+        value, if no other operation wrote that value; if no result contains the value, no order needs the operation."""
         if operation.is_over:
             yield operation
         elif operation.op not in self.makers or not self.is_unique:
@@ -99,7 +100,8 @@ class Model:
         return operation.op == "read"
 
     def useful(self, state: Any, pure: list[Operation], places: Places) -> Iterator[int]:
-        """Yields the places of open operations that the ending operation may need; `pure` lists operations waiting for a state."""
+        """Yields the bits of open operations that may precede the ending operation; `pure` lists operations that wait for a
+        state."""
         for some in places.values():
             yield from some
 
@@ -122,8 +124,8 @@ class Exchange(Model):
         super().__init__(operations)
 
     def keeps_unseen(self) -> bool:
-        """Returns whether values that no result shows may matter: a `cas` without a write, or with an unknown outcome, may need
-        one."""
+        """Returns whether values that no result shows may matter: a `cas` that didn't write, or whose outcome is unknown, may need
+        such a value."""
         return self.asks_more
 
     def shown(self, operation: Operation) -> Iterator[str]:
@@ -160,7 +162,7 @@ class Members(Model):
         return self.bits.setdefault(text, 1 << len(self.bits))
 
     def useful(self, state: Any, pure: list[Operation], places: Places) -> Iterator[int]:
-        """Yields the operations that an open read needs, ordered by value, since adds commute."""
+        """Yields the adds of the first value that an open read needs. The order of values is fixed, since adds commute."""
         for read in pure:
             missing = self.read[read.line] & ~state
             if missing and not state & ~self.read[read.line]:
@@ -207,7 +209,7 @@ class Sequence(Model):
         super().__init__(operations)
 
     def after(self, operation: Operation, state: Any) -> Optional[Hashable]:
-        """An append has to make the longest list in a read, or follows the read."""
+        """Returns the state after an operation, or None. An append continues the longest list in a read, or follows that list."""
         if operation.op == "read":
             return state if operation.values == state else None
         value = operation.value if operation.value in self.sights else UNSEEN
@@ -236,7 +238,7 @@ MODELS = {"register": Model, "cas": Exchange, "set": Members, "queue": Queue, "l
 
 
 def operation_of(line: int, text: bytes, model: type[Model]) -> Optional[tuple[str, Operation]]:
-    """Returns a line's key and operation, or None if it didn't happen. ValueError: the line is wrong."""
+    """Returns a line's key and operation, or None if the line says that it didn't happen. ValueError: the line is wrong."""
     row = object_of(text)
     if row is None:
         raise ValueError(f"not an object of JSON; write {EXAMPLE}")

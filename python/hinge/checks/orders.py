@@ -18,11 +18,12 @@ Configuration = tuple[int, Hashable]  # bits of the open operations that took ef
 
 
 class TooMany(Exception):
-    """There are more orders than can be looked at."""
+    """Raised if there are more orders than the search can look at."""
 
 
 class Search:
-    """The configurations that the operations so far allow, from moment to moment."""
+    """Holds the configurations that the operations so far allow, and moves on from moment to moment. A configuration says which
+    open operations took effect, and the state after them."""
 
     def __init__(self, model: Model, most: int) -> None:
         self.model, self.most = model, most
@@ -53,13 +54,15 @@ class Search:
         return bool(self.frontier)
 
     def with_pure(self, mask: int, state: Hashable) -> int:
-        """Together with the operations that change nothing and fit, since to place them now leaves all other ways open."""
+        """Returns the mask with the bits of all operations that change nothing and fit the state. To place them now excludes no
+        order."""
         fit = (bit for bit, one in self.pure.items() if not mask & bit and self.model.after(one, state) is not None)
         return mask | sum(fit)
 
     def reached(self, goal: int) -> Iterator[Configuration]:
-        """Yields configurations with the goal, and earlier ones that may matter. For equal states, those that used more optional
-        operations are dropped. TooMany: there are too many configurations."""
+        """Yields the configurations in which the operation with the bit `goal` took effect. If two configurations are equal up to
+        operations that may never take effect, and one used a subset of the other's, only that one counts. TooMany: there are too
+        many."""
         used = dict[Configuration, list[int]]()
         configurations = list(self.frontier)
         for mask, state in configurations:

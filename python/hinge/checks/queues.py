@@ -15,7 +15,8 @@ END = attrgetter("end")
 
 
 class Rules:
-    """The puts, with their values as keys, the gets that returned a value, and the gets without a result, which may have received any value."""
+    """The puts, with their values as keys, the gets that returned a value, and the gets without a result, which may have received
+    any value."""
 
     def __init__(self, operations: list[Operation]) -> None:
         self.puts = {one.value: one for one in operations if one.op == "put"}
@@ -34,7 +35,7 @@ class Rules:
         return ALWAYS if self.silent else NEVER
 
     def until(self, moment: float) -> float:
-        """Returns until when a value that was put before the moment is surely in the queue."""
+        """Returns the moment until which the queue surely contains a value that was put before `moment`."""
         return self.there[bisect_left(self.ends, moment)]
 
     def breaches(self) -> Iterator[Operation]:
@@ -65,15 +66,17 @@ class Rules:
         return sorted(due, key=lambda pair: pair[1].end)
 
     def likely(self) -> list[Operation]:
-        """Returns the operations with the gets without a result that have to be, which get what has to be gone first."""
+        """Returns the operations in which gets without a result get the values that have to leave first. Other such gets are left
+        out."""
         pairs = zip(self.silent, self.due())
         guesses = [replace(one, words={**one.words, "result": value}) for one, (value, _) in pairs]
         return [*self.puts.values(), *self.empty, *self.gets, *guesses]
 
 
 def first_breach(operations: list[Operation]) -> tuple[bool, Optional[Operation]]:
-    """Returns whether the rules decide the operations, and the first at whose end one is broken. Each value is put once. Gets without a
-    result beside gets from an empty queue are decided where a rule is broken anyway, or the likely values keep all rules."""
+    """Returns whether the rules decide the operations, and the first operation at whose end a rule is broken. Each value is put
+    once. If there are gets without a result and gets from an empty queue, the rules decide only if a rule is broken anyway, or if
+    the likely values of the gets keep all rules."""
     rules = Rules(operations)
     breach = min(rules.breaches(), key=lambda one: (one.end, one.line), default=None)
     is_clear = breach is not None or not (rules.silent and rules.empty)

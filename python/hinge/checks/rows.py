@@ -89,7 +89,7 @@ def separator(text: str) -> Optional[str]:
 
 
 def wrong(record: Row, field_number: int) -> str:
-    """Returns the error of a row, for the field that the program names; 0 is the whole row."""
+    """Returns the error of a row. `field_number` is the field that the program names, or 0 for the whole row."""
     if field_number:
         name, text = HEADER[field_number - 1], record.fields[field_number - 1]
         return f"field {field_number} ({name}) {text!r}: {field_advice(name, text)}"
@@ -106,13 +106,14 @@ def wrong_header(text: str) -> str:
 
 
 def verdict(text: bytes) -> tuple[int, str]:
-    """Returns the program's status for a packet file, and its fault."""
+    """Returns the program's exit status for a packet file, and the program's message about the first fault."""
     answer = asked([dummynet(), "replay", "/dev/null", "/dev/stdin"], text, VERDICTS, NOTHING)
     return answer.status, answer.told
 
 
 def look_ahead(ahead: list[Row], rows: Iterator[Row]) -> None:
-    """Adds the next rows, fewer if they are long, since each holds its fields."""
+    """Adds the next rows to `ahead`: at most STRETCH rows, and fewer if they are long, since each row keeps its fields in
+    memory."""
     letters = sum(len(row.text) for row in ahead)
     while len(ahead) < STRETCH and letters <= STRETCH_LETTERS and (row := next(rows, None)):
         ahead.append(row)
@@ -155,7 +156,7 @@ class RowCheck:
         return islice(rows_of(io.BytesIO(self.data), self.line, "utf-8"), begin, None)
 
     def judge(self) -> bool:
-        """Returns whether the program accepts all rows; reports the others."""
+        """Reports the rows that the program refuses; returns whether there are none."""
         text = self.data
         rows = self.rows()
         ahead = list[Row]()

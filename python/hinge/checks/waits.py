@@ -49,7 +49,7 @@ def with_bound(pipes: Mapping[int, Pipe], queues: Mapping[int, Queue]) -> list[P
 
 
 def told_wait(in_force: InForce) -> Iterator[str]:
-    """Yields the bound of each such pipe as text."""
+    """Yields the bound of each pipe without queues, as text."""
     for pipe in with_bound(in_force.pipes, in_force.queues):
         limit = bound_of(pipe, LENGTH)
         yield (

@@ -27,7 +27,7 @@ TIMES: dict[str, dict[str, None]] = {"svg": {"Date": None}, "pdf": {"CreationDat
 
 
 def title_lines(title: str, width: int = TITLE_WIDTH) -> list[str]:
-    """Returns a title in a few lines; the rest is left out."""
+    """Returns a title in at most TITLE_LINES lines; the rest is left out."""
     return textwrap.wrap(title, width, max_lines=TITLE_LINES, placeholder=" ..")
 
 
@@ -43,7 +43,7 @@ def as_written(text: str) -> str:
 
 @singledispatch
 def draw(item: object, axes: Axes, base: Reals) -> Reals:
-    """Draws an item; bars are above `base`, which returns with them. TypeError: the item is of no kind."""
+    """Draws an item, with bars on top of `base`; returns the base for the next bars. TypeError: there is no such kind of item."""
     raise TypeError(item)
 
 
@@ -132,14 +132,15 @@ def finish_panel(axes: Axes, panel: Panel, drawing: Drawing) -> int:
 
 
 def make_room(axes: Axes, rows: int) -> None:
-    """Room above the lines for so many rows of names."""
+    """Raises an axis's upper limit, so that `rows` rows of names fit above the lines."""
     if rows:
         low, high = axes.get_ylim()
         axes.set_ylim(low, low + (high - low) / (1 - min(NAME_ROOM * rows + 0.03, MOST_ROOM)))
 
 
 def name_flows(fig: Figure, column: Sequence[Axes], drawing: Drawing, several: bool, top: float) -> float:
-    """Writes the names of flows with their colors above the panels, `top` inches below the upper edge; returns their height in inches."""
+    """Writes the names of flows with their colors above the panels, `top` inches below the upper edge; returns the height of the
+    names in inches."""
     handles = {label: handle for axes in reversed(column) for handle, label in zip(*axes.get_legend_handles_labels())}
     labels = [as_written(key.name if several else key.told) for key in drawing.keys]
     if not labels:
@@ -210,7 +211,7 @@ def begin_drawing() -> None:
 
 
 def save(drawings: list[Drawing], path: str, kind: str, title: str) -> None:
-    """Draws into a file, whose kind is the ending of a name."""
+    """Draws pictures side by side into a file. `kind` is a format of matplotlib, such as `png`."""
     begin_drawing()
     with working("drawing"):
         save_figure(figure(drawings, title), path, kind)

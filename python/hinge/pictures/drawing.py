@@ -34,7 +34,8 @@ class Line:
 
 @dataclass(frozen=True)
 class Band:
-    """A band between `low` and `high` with a middle line, in steps; `x` contains the final end too. Steps without a value are nan."""
+    """A band between `low` and `high` with a middle line, in steps. `x` contains the steps' starts and the last end. Steps without
+    a value are nan."""
 
     name: str
     x: Reals
@@ -47,7 +48,7 @@ class Band:
 
 @dataclass(frozen=True)
 class Points:
-    """Packets, as places of the replay."""
+    """Points for packets. `places` are the packets' places in the replay."""
 
     name: str
     places: Integers

@@ -42,7 +42,8 @@ def provenance_of(sources: list[Source]) -> list[str]:
 
 
 def of_run(source: Source) -> str:
-    """The link of a run in the words that a user types: of a session with a seed, whose pipes 1 and 2 are the two ways."""
+    """Returns a run's link in the words that a user types; an empty text if the source isn't a run, which is a session with a seed
+    whose pipes 1 and 2 are the link's two directions."""
     first = [next((text for _, text in source.changes if text.startswith(f"pipe {number} config")), None) for number in (1, 2)]
     if source.seed is None or None in first or {kind for kind, _ in source.replay.packets.targets} != {"pipe"}:
         return ""

@@ -36,7 +36,7 @@ def exact_sum(column: Integers) -> int:
 
 
 def mean(total: int, count: int) -> Optional[int]:
-    """Rounded down to whole ns."""
+    """Returns a mean, rounded down to whole ns, or None without values."""
     return total // count if count else None
 
 
@@ -83,7 +83,7 @@ def jitter_after(sixteenfold: int, delays: list[int]) -> int:
 
 
 def of_rows(replay: Replay, rows: Rows, flows: list[slice]) -> Iterator[Value]:
-    """Yields each flow's figures for all rows."""
+    """Yields each flow's figures that count all rows, also those of packets that didn't leave."""
     event, length, at = (column[rows] for column in (replay.event, replay.packets.length, replay.at))
     for flow in flows:
         size = exact_sum(length[flow])

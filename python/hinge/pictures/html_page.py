@@ -59,12 +59,12 @@ def outline(edges: Reals, low: Reals, high: Reals) -> tuple[Reals, Reals]:
 
 
 def numbers(values: Reals) -> list[Optional[float]]:
-    """Nine digits of each, and None for a gap."""
+    """Returns each value with nine digits, and None for a gap, which is nan."""
     return [None if value != value else float(f"{value:.9g}") for value in values.tolist()]
 
 
 def group_of(name: str, flow: Optional[int]) -> str:
-    """Under which name the page hides something in all panels."""
+    """Returns the name with which the page hides an item in all panels: the flow's number, or else the item's name."""
     return name if flow is None else f"flow {flow}"
 
 
@@ -74,7 +74,7 @@ def part(item: Line | Band | Points | Bars, x: Reals, y: Reals, **style: object)
 
 
 class HtmlPage:
-    """Prepares the data of a replay, or of a net without series, for a page. `tell` returns the text on a packet."""
+    """Prepares the data of a replay, or of a net without series, for a page. `tell` returns the text about a packet."""
 
     def __init__(self, drawing: Drawing, tell: Callable[[int], str], flows_in_time: Optional[Series] = None) -> None:
         self.found, self.drawing, self.tell = flows_in_time, drawing, tell

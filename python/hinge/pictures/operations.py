@@ -1,5 +1,5 @@
-"""A picture of the fewest operations without an order: a line for each client, a bar for each operation, and shades for faults. The axis
-has the moments in their order and not to scale, since an operation of some ms may fail a read a minute later."""
+"""A picture of the fewest operations without an order: a line for each client, a bar for each operation, and shades for faults. The
+axis shows the moments in order, but not to scale, since an operation that takes some ms may fail a read a minute later."""
 
 from __future__ import annotations
 
@@ -43,7 +43,8 @@ class Shade(NamedTuple):
 
 @contextmanager
 def net_in(path: Path) -> Iterator[Path]:
-    """Yields the net, or a failure's net, whose file lies beside the failure meanwhile. Fault: the failure is that of no net."""
+    """Yields the path of a net. For a failure of a test (a JSON file), the net is a temporary file beside the failure. Fault: the
+    failure contains no net."""
     if not read_bytes(str(path), MOST_TEXT).startswith(b"{"):
         yield path
         return
@@ -75,7 +76,8 @@ def shade_of(one: TimedEvent, end: Optional[int], events: list[TimedEvent]) -> S
 
 
 def operations_drawing(name: str, fewest: list[Operation], shades: list[Shade]) -> Drawing:
-    """Each operation has a color, which also marks its words; an operation that never returned is dashed and lasts."""
+    """Returns the picture of operations. Each operation gets a color, which also marks its text. The bar of an operation that never
+    returned is dashed, and ends at the right edge."""
     first = min(one.begin for one in fewest)
     last = max(one.end if one.is_over else one.begin for one in fewest)
     shades = [one for one in shades if one.begin <= last and one.end >= first]
@@ -104,7 +106,8 @@ def operations_drawing(name: str, fewest: list[Operation], shades: list[Shade]) 
 
 
 def look_at_operations(options: LookOptions, name: str, faults: Optional[str] = None) -> int:
-    """Judges the operations, and draws the fewest without an order; returns the status."""
+    """Judges the operations in a file, and draws the fewest without an order; returns the exit status. `faults` is the file of a
+    net whose faults shade the picture."""
     refuse_inputs(options.outputs, options.source)
     shades = shades_of(faults) if faults else []
     findings = Findings()

@@ -52,7 +52,7 @@ def percentiles(moments: Integers, values: Reals, steps: Steps) -> Reals:
 
 
 def late_panel(title: str, lines: list[Line]) -> Optional[Panel]:
-    """Returns the panel of late hosts, if any."""
+    """Returns the panel with the lateness of hosts, or None if no host was noticeably late."""
     is_late = any(line.y.max(initial=0) >= LEAST_LATE for line in lines)
     return Panel(title, "s", "ms", [*lines]) if is_late else None
 

@@ -1,4 +1,4 @@
-"""The series that a picture draws, of each flow: rates, delays, their distribution, and the drops by cause."""
+"""The series that a picture draws for each flow: rates, delays, their distribution, and the drops with their causes."""
 
 from __future__ import annotations
 
@@ -106,20 +106,20 @@ class Series:
 
 
 def rounded_up(least: int) -> int:
-    """1, 2 or 5 times a power of ten, at least so much and 1."""
+    """Returns the smallest of the numbers 1, 2, 5, 10, 20, 50 and so on that is at least `least`."""
     power: int = 10 ** (len(str(max(least, 1))) - 1)
     return next(power * factor for factor in (1, 2, 5, 10) if power * factor >= least)
 
 
 def rounded_down(most: int) -> int:
-    """1, 2 or 5 times a power of ten, at most so much, and at least 1."""
+    """Returns the greatest of the numbers 1, 2, 5, 10, 20, 50 and so on that is at most `most`; 1 if there is none."""
     power: int = 10 ** (len(str(max(most, 1))) - 1)
     return next((power * factor for factor in (5, 2) if power * factor <= most), power)
 
 
 def round_step(span: int) -> int:
-    """Returns a round step in ns: a second in a span from 20 to 200 s, as rates in shorter steps are combs, and otherwise a step
-    that gives about the desired number."""
+    """Returns a round step in ns. A span from 20 to 200 s gets steps of a second, since rates in shorter steps look like combs.
+    Other spans get about STEPS_WANTED steps, or STEPS_OF_SHORT below 20 s."""
     if span < FEWEST_STEPS * NS_PER_S:
         return rounded_up(span // STEPS_OF_SHORT)
     return max(rounded_up(span // STEPS_WANTED), NS_PER_S)
@@ -178,7 +178,7 @@ def thinned(places: Integers, replay: Replay, most: int) -> Integers:
 
 
 def distribution(took: Integers) -> tuple[Reals, Reals]:
-    """Parts of the packets, and the delays in ms that so many don't exceed."""
+    """Returns fractions of the packets, and for each the delay in ms that this fraction doesn't exceed."""
     sequence = np.sort(took)
     if not len(sequence):
         return np.zeros(0), np.zeros(0)
@@ -187,7 +187,7 @@ def distribution(took: Integers) -> tuple[Reals, Reals]:
 
 
 def waiting(replay: Replay, places: Integers) -> tuple[Reals, Reals]:
-    """Returns the number of these packets waiting for transmission, at each change."""
+    """Returns the moments in s at which the number of waiting packets changes, and the number from each moment on."""
     connection = places[(replay.event[places] == OUT) | (replay.event[places] == HELD)]
     start = connection[replay.event[connection] == OUT]
     moments = np.concatenate((replay.at[connection], replay.start[start]))
@@ -220,7 +220,8 @@ def shared(replay: Replay, groups: Groups, pipes: Groups) -> dict[str, Integers]
 
 
 def named_places(groups: Groups, pipes: Groups) -> Iterator[tuple[str, Integers, bool]]:
-    """Yields each flow's places in a single pipe or queue, and whether the flow stands for several."""
+    """Yields each flow's name and places, and whether the flow stands for several. Splits the rest of the flows by pipe or
+    queue."""
     last = len(groups.names) - 1 if groups.has_rest else -1
     for number, (name, places) in enumerate(groups.places()):
         if number != last:

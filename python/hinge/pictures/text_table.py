@@ -29,7 +29,7 @@ def head(name: str) -> tuple[str, str]:
 
 
 def blocks(columns: list[list[str]], width: int) -> Iterator[list[list[str]]]:
-    """Yields the columns in blocks no wider than this, if possible; the first column begins each block."""
+    """Yields the columns in blocks of at most `width` letters, if possible. The first column begins each block."""
     first, *rest = columns
     block, letters = [first], len(first[0])
     for column in rest:

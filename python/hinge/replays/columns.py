@@ -1,4 +1,5 @@
-"""Packet files, reports, histories and indexes as columns, which hinge-packets reads; hosts/packets/columns.h says how it answers."""
+"""Packet files, reports, histories and indexes as columns of numbers. The program hinge-packets reads these files;
+hosts/packets/columns.h describes the program's answers."""
 
 from __future__ import annotations
 
@@ -88,7 +89,7 @@ class Lazily(Sequence[Item]):
 
 
 class Answer:
-    """The program's answer about a file."""
+    """Reads the answer of hinge-packets about a file. `refuse` raises the fault for an exit status and an error text."""
 
     def __init__(self, program: "Process[bytes]", refuse: Callable[[int, str], object]) -> None:
         self.program, self.refuse = program, refuse
@@ -113,7 +114,8 @@ class Answer:
 
 
 def located(name: str, path: str, fields: dict[str, OfWord], place: int) -> Fault:
-    """Returns the fault in a malformed row, with its line."""
+    """Returns the fault for a malformed row, with the line and the first wrong field. `place` counts the rows below the header from
+    0."""
     with opened(path, MOST_TABLE) as file:
         row = next(islice(rows_of(file), place + 1, None), None)
     if row and len(row.fields) != len(fields):
@@ -124,12 +126,12 @@ def located(name: str, path: str, fields: dict[str, OfWord], place: int) -> Faul
 
 
 class Quoted(Exception):
-    """Raised for a file with quotes, which the program doesn't read in this way."""
+    """Raised if a file contains quotes, which the program doesn't read: `read_columns` then passes a copy without quotes."""
 
 
 @contextmanager
 def asked(source: BinaryIO, words: Iterable[str], refuse: Callable[[int, str], object]) -> Iterator[Answer]:
-    """Yields the program's answer about a file. An answer that was read whole counts if the program ended well."""
+    """Yields the program's answer about a file. Calls `refuse` if the caller read the whole answer, and the program failed."""
     large = {**os.environ, "GLIBC_TUNABLES": "glibc.malloc.hugetlb=1"}  # pages, with which long tables are read faster
     with begun([packets(), "columns", *words], stdin=source, stdout=PIPE, stderr=PIPE, env=large) as program:
         try:
@@ -143,7 +145,8 @@ def asked(source: BinaryIO, words: Iterable[str], refuse: Callable[[int, str], o
 def read_columns(
     path: str, words: tuple[str, ...], fields: dict[str, OfWord], take: Callable[[Answer], Item], what: str = ""
 ) -> Item:
-    """Returns columns from the program's answer about a file. Fault: the file changed, or the answer is malformed."""
+    """Returns the result of `take`, which reads the program's answer about a file. `words` are the program's arguments, and
+    `fields` the columns in the file's header. Fault: the header or a row is wrong, or the program failed."""
 
     def refuse(status: int, text: str) -> None:
         if status == QUOTED:
@@ -177,7 +180,7 @@ def read_columns(
 
 @dataclass(frozen=True)
 class Tuples:
-    """Five-tuples as two words each: addresses; protocol and ports."""
+    """Holds five-tuples as two 64-bit numbers each: the two addresses, and the protocol with the two ports."""
 
     words: memoryview
 
@@ -186,19 +189,19 @@ class Tuples:
         return addresses >> 32, addresses & 0xFFFFFFFF, ports >> 48, ports >> 32 & 0xFFFF, ports >> 16 & 0xFFFF
 
     def number_of(self, addresses: int, ports: int) -> int:
-        """Returns the number of the five-tuple with these words, or -1."""
+        """Returns the number of the five-tuple with these two 64-bit numbers, or -1."""
         places = np.flatnonzero(np.frombuffer(self.words, "i8")[1::2] == ports).tolist()
         return next((place for place in places if self.words[2 * place] == addresses), -1)
 
     def columns(self) -> list[Integers]:
-        """Returns the addresses, protocols and ports of all flows."""
+        """Returns a column each for the sources, destinations, protocols, source ports and destination ports."""
         addresses, ports = (np.frombuffer(self.words, "i8")[place::2] for place in (0, 1))
         return [addresses >> 32 & 0xFFFFFFFF, addresses & 0xFFFFFFFF, ports >> 48, ports >> 32 & 0xFFFF, ports >> 16 & 0xFFFF]
 
 
 @dataclass(frozen=True)
 class Rows:
-    """Rows with their numbered targets and five-tuples."""
+    """Holds rows as columns. The columns `target` and `five_tuple` contain places in `targets` and `tuples`."""
 
     columns: dict[str, Integers]
     targets: list[tuple[str, int]]
@@ -218,7 +221,7 @@ def read_rows(path: str) -> Rows:
 
 
 class OfTarget(NamedTuple):
-    """A target's number of rows, and its first row's line."""
+    """Describes a target, which is a pipe or a queue, with the number of its rows and the first row's line."""
 
     kind: str
     number: int
@@ -254,7 +257,7 @@ def read_sums(path: str) -> Sums:
 
 
 def read_lines(path: str, rows: int) -> tuple[int, Optional[dict[str, Integers]]]:
-    """Returns a report's line count and columns; None instead of columns if the number of rows differs."""
+    """Returns the number of a report's lines, and its columns, or None instead if the packet file's number of rows differs."""
 
     def take(answer: Answer) -> tuple[int, Optional[dict[str, Integers]]]:
         count, is_whole = answer.numbers(2)
@@ -264,7 +267,7 @@ def read_lines(path: str, rows: int) -> tuple[int, Optional[dict[str, Integers]]
 
 
 def read_index(path: str) -> dict[str, Integers]:
-    """Returns the frame of each row."""
+    """Returns an index from `hinge packets` as two columns: rows, and the number of each row's frame in the capture."""
     widths = dict.fromkeys(INDEX_FIELDS, "i8")
     return read_columns(path, ("index",), INDEX_FIELDS, lambda answer: answer.columns(answer.numbers(1)[0], widths))
 
@@ -274,7 +277,7 @@ Change = tuple[int, int, str]  # the record of a command that was obeyed, the cl
 
 @dataclass(frozen=True)
 class Told:
-    """A history's content, which is steady if all commands precede the first submit."""
+    """Holds a history's content. The history is steady if all commands precede the first submit."""
 
     rows: Rows
     changes: list[Change]

@@ -27,7 +27,7 @@ BYTES_PER_KBYTE = 1024
 
 @dataclass
 class Explainer:
-    """Explains rows of one replay."""
+    """Explains a replay's rows. Fault: the rows came from several callers, so the queues are unknown."""
 
     parts: Parts
 
@@ -54,7 +54,7 @@ class Explainer:
     # ---- what every packet has ----
 
     def own(self, place: int) -> Pipe | Queue:
-        """Returns the pipe or queue of a row with a target."""
+        """Returns the pipe or queue of a row with a target. Fault: this configuration has no such target."""
         number = int(self.parts.own[place])
         setting = None if number == UNKNOWN else self.parts.configuration.spells[number].setting
         if setting is None:
@@ -62,7 +62,8 @@ class Explainer:
         return setting
 
     def turns(self, number: int, value: Callable[[Setting], int]) -> list[int]:
-        """Returns the places where the value changes among this target's spells. Other spells in outages don't count."""
+        """Returns the places among its target's spells at which a spell's value changes. A spell describes a pipe or queue from one
+        command to the next. Other spells don't count if they only slow a link down in an outage."""
         spells, outages = self.parts.configuration.spells, self.parts.of_outages
         key = spells[number].target, value, number if number in outages else UNKNOWN
         if key not in self.known_turns:
@@ -74,7 +75,8 @@ class Explainer:
         return self.known_turns[key]
 
     def time_of(self, number: int, value: Callable[[Setting], int]) -> tuple[Optional[int], Optional[int]]:
-        """From when to when a pipe or queue had the value of this spell; None where that was from the beginning, or to the end."""
+        """Returns the moments in ns from which and to which a pipe or queue had this spell's value. None: from the beginning, or to
+        the end."""
         spells = self.parts.configuration.spells
         turns = self.turns(number, value)
         places = self.parts.configuration.by_target[spells[number].target]
@@ -83,7 +85,7 @@ class Explainer:
         return spells[places[begin]].moment if begin else None, spells[places[ends[0]]].moment if ends else None
 
     def while_so(self, number: int, value: Callable[[Setting], int]) -> str:
-        """Describes the same in words; an empty text if the value never changed."""
+        """Describes the time in which a pipe or queue had this spell's value; an empty text if the value never changed."""
         begin, end = self.time_of(number, value)
         if begin is None:
             return "" if end is None else f"in force until {seconds(end)}"
@@ -93,7 +95,8 @@ class Explainer:
         return bool(self.packets.five_tuple[place] == self.parts.of_nobody and self.packets.word[place] == KEPT)
 
     def shades(self, end: int) -> set[tuple[int, int]]:
-        """From when to when a pipe lost all packets, which it didn't from the beginning, or held all."""
+        """Returns the spans in ns in which a pipe held all packets in an outage, or lost all packets, but not from the beginning.
+        Losses without an end last to `end`."""
         lossy = [
             self.time_of(number, loss_of)
             for number, spell in enumerate(self.parts.configuration.spells)
@@ -104,7 +107,8 @@ class Explainer:
         return {*zip(begins.tolist(), ends.tolist()), *((since, until or end) for since, until in lossy if since is not None)}
 
     def outage(self, place: int) -> str:
-        """Describes the outage that a packet without a sender represents: during its transmission the link holds all others."""
+        """Describes the outage that a packet without a sender represents: during this transmission, the link holds all other
+        packets."""
         start, pipe = int(self.replay.start[place]), int(self.parts.pipe[place])
         return f"an outage, in which pipe {pipe} held packets from {seconds(start)} to {seconds(start + int(self.parts.transmission[place]))}"
 
@@ -126,7 +130,7 @@ class Explainer:
         return f"pipe {pipe}, which its queues share"
 
     def flow_name(self, place: int) -> str:
-        """Returns a flow's name, if the flow shares its link."""
+        """Returns the name of a packet's flow, with the target and a queue's weight."""
         own = self.own(place)
         weight = f", weight {own.weight}" if isinstance(own, Queue) else ""
         return f"flow {self.replay.flow[place]} ({self.target_name(place)}{weight})"
@@ -134,7 +138,7 @@ class Explainer:
     # ---- packets that left ----
 
     def delivered(self, place: int) -> str:
-        """Waiting, transmission and delay, and their sum."""
+        """Describes the course of a packet that left: waiting, transmission and delay, and their sum."""
         parts = self.parts
         sending = int(parts.transmission[place])
         (delay, behind) = map(int, chain(*parts.delay_and_behind(slice(place, place + 1))))
@@ -181,7 +185,7 @@ class Explainer:
         return f"It waited {ms(delay)} for {self.link_name(place)}: {'; '.join(self.waited_for(place, wait))}."
 
     def waited_for(self, place: int, wait: WaitedFor) -> list[str]:
-        """Returns a line with the cost in time for each flow ahead of a packet; a last line sums up small flows among many."""
+        """Returns a text with the transmission time for each flow ahead of a packet. Many small flows share a text."""
         lines = list[str]()
         places = wait.places
         costs = wait.costs
@@ -204,7 +208,8 @@ class Explainer:
         return [*lines, *(self.group(place, flow == own, flows[flow]) for flow in numbers), *others]
 
     def largest(self, place: int, places: Integers, costs: Integers) -> tuple[Integers, Integers, list[str]]:
-        """Returns the packets and costs for this flow and the largest flows, as many as a table lists, and a line about the rest."""
+        """Returns the packets and costs for this flow and the largest flows, as many as a table lists, and a text about the other
+        flows."""
         if len(places) <= TABLE_FLOWS or not self.parts.is_shared[place]:
             return places, costs, []
         flow, own = self.replay.flow[places], self.replay.flow[place]
@@ -216,7 +221,7 @@ class Explainer:
         return places[is_told], costs[is_told], [f"{ms(int(rest.sum()))} for {packets(len(rest))} of {flows.names[-1]}"]
 
     def group(self, place: int, is_own: bool, costs: dict[int, int]) -> str:
-        """Describes one flow's packets ahead of a packet, each with its cost."""
+        """Describes one flow's packets ahead of a packet. `costs` contains each packet's transmission time."""
         if not self.parts.is_shared[place]:
             whose = "that came before it"
         else:
@@ -241,7 +246,7 @@ class Explainer:
         return f"It was lost by the loss rate of {self.target_name(place)}{', ' if in_force else ''}{in_force}: {bits}."
 
     def full(self, place: int) -> str:
-        """Describes the full queue: its packets, and the moment at which there was room again."""
+        """Describes the full queue that dropped a packet: the queue's packets, and the moment at which there was room again."""
         backlog = self.order.backlog(place)
         limit = self.own(place).limit
         bytes_up_to = np.cumsum(self.packets.length[backlog])
@@ -261,7 +266,7 @@ class Explainer:
         return f"{why}: {waited}. {self.room_again(place, int(backlog[leaver]))}"
 
     def room_again(self, place: int, leaver: int) -> str:
-        """Describes the moment at which the queue had room: the start of this packet's transmission."""
+        """Describes the moment at which the queue had room: when packet `leaver` began to be sent."""
         queue = self.order.accepted_of(int(self.replay.flow[leaver]))
         start = int(queue.starts[np.searchsorted(queue.places, leaver)])
         if start == GREATEST:
@@ -277,7 +282,7 @@ class Explainer:
         return f"{self.parts.configuration.path} configures no {self.target_name(place)}, so it went nowhere."
 
     def held(self, place: int) -> str:
-        """Accepted, and on its way at the end, or discarded by a delete."""
+        """Describes an accepted packet that never left: a delete discarded the packet, or the packet was on its way at the end."""
         queue = self.order.accepted_of(int(self.replay.flow[place]))
         connection = f"It was accepted as packet {self.replay.packet[place]}"
         number = int(np.searchsorted(queue.places, place))

@@ -11,12 +11,12 @@ from hinge.replays.replay import Replay
 
 
 def order_of(of: Integers, count: int) -> Integers:
-    """Returns the places sorted by their numbers, which are below `count`."""
+    """Returns the places in the order of their numbers, which are below `count`."""
     return np.argsort(np.array(of, "u2") if count <= 1 << 16 else of, kind="stable")  # which is faster for short numbers
 
 
 def spans(of: Integers, count: int) -> list[slice]:
-    """Returns each number's span among the sorted places."""
+    """Returns the span of each number's places in `order_of`."""
     ends = np.cumsum(np.bincount(of, minlength=count)).tolist()
     return [slice(begin, end) for begin, end in zip([0, *ends], ends)]
 

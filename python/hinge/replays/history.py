@@ -57,8 +57,8 @@ def read_sources(
     most: int = 1,
     inputs: Sequence[Optional[str]] = (),
 ) -> list[Source]:
-    """Reads the sources of a command line: a history, or a packet file and at most a number of reports. Fault: the files are
-    others, or an output is also an input."""
+    """Reads the sources of a command line: a history, or a packet file with at most `most` reports. Fault: the files are of other
+    kinds or too many, or an output is also an input."""
     refuse_inputs(outputs, (*files, addresses_file(files[0]), config, *inputs))
     first, *reports = files
     if len(reports) > most:

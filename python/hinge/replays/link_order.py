@@ -15,9 +15,9 @@ from hinge.replays.replay import HELD
 
 @dataclass(frozen=True)
 class WaitedFor:
-    """The packets ahead of a packet, with each packet's cost in ns.
+    """Holds the packets that a packet waited for, with each packet's transmission time in ns.
 
-    The first may have been in transmission; then only the rest counts.
+    If the first packet was under transmission at the packet's arrival, only the rest of that time counts.
     """
 
     places: Integers
@@ -27,7 +27,7 @@ class WaitedFor:
 
 @dataclass(frozen=True)
 class Sent:
-    """Packets' places in the order of their starts, and the starts."""
+    """Holds the places of a link's packets in the order in which their transmissions started, and these starts."""
 
     places: Integers
     starts: Integers
@@ -35,8 +35,9 @@ class Sent:
 
 @dataclass(frozen=True)
 class Accepted:
-    """The places of a flow's packets in queue order, their starts, and for each the record of the delete that discarded the packet,
-    or GREATEST. A held packet on a shared link starts at GREATEST, since no record contains its start."""
+    """Holds the places of a flow's packets in queue order, the starts of the transmissions, and for each packet the record of the
+    delete that discarded the packet, or GREATEST. A packet that hadn't left a shared link starts at GREATEST, since no record
+    contains its start."""
 
     places: Integers
     starts: Integers
@@ -50,7 +51,7 @@ class Accepted:
 
 
 class Times(NamedTuple):
-    """When a packet's transmission starts, in ns, and how long it and the delay are."""
+    """Holds the start of a packet's transmission, and the lengths of the transmission and the delay, in ns."""
 
     start: int
     transmission: int
@@ -59,7 +60,7 @@ class Times(NamedTuple):
 
 @dataclass
 class LinkOrder:
-    """Finds the packets ahead of a packet. The sequences of links and flows are created on demand."""
+    """Finds the packets ahead of a packet. Each link's and each flow's sequence of packets is created on demand."""
 
     parts: Parts
     links: dict[int, Sent] = field(default_factory=dict)
@@ -89,13 +90,14 @@ class LinkOrder:
         return WaitedFor(places, costs, bool(rest > 0))
 
     def before(self, place: int) -> int:
-        """Returns the packet that left its link before this packet, or UNKNOWN."""
+        """Returns the place of the packet that the link sent before this packet, or UNKNOWN."""
         link = self.sent_on(int(self.parts.link[place]))
         at = int(np.flatnonzero(link.places == place)[0])
         return int(link.places[at - 1]) if at else UNKNOWN
 
     def deleted(self, place: int) -> tuple[int, int]:
-        """Returns the record and moment of the first delete that reached a packet's queue after its arrival, or GREATEST."""
+        """Returns the record and moment of the first delete of the queue or pipe after a packet's arrival; both are GREATEST
+        without a delete."""
         parts, spells = self.parts, self.parts.configuration.spells
         target = parts.replay.packets.targets[int(parts.replay.packets.target[place])]
         ways = {target, ("pipe", int(parts.pipe[place]))}
@@ -104,7 +106,8 @@ class LinkOrder:
         return next(((spell.record, spell.moment) for spell in is_later if spell.setting is None), (GREATEST, GREATEST))
 
     def times_of_held(self, place: int, free: int) -> Times:
-        """Those of a packet that hadn't left, on a link of one flow that is free from a moment on."""
+        """Returns the times of a packet that hadn't left at the end, if its link serves a single flow and is free from `free`
+        on."""
         parts = self.parts
         start = max(free, int(self.parts.replay.at[place]))
         spell = parts.carrier[place : place + 1]
@@ -148,8 +151,9 @@ class LinkOrder:
 
     @cached_property
     def further(self) -> dict[int, int]:
-        """Returns the rows in which a host passed packets to a second pipe: at once after these packets left, behind earlier
-        packets."""
+        """Returns the second row for each packet that a host passed to a second pipe, with the place of the packet's first row. The
+        host passes a packet on at once after the packet left. If equal packets left together, the earlier packet is passed on
+        first."""
         replay, packets = self.parts.replay, self.parts.replay.packets
         seconds_of = [kind == "pipe" and number > LAST_OF_LINKS for kind, number in packets.targets]
         if not any(seconds_of) or not (is_again := np.array(seconds_of)[packets.target] & (packets.word == KEPT)).any():

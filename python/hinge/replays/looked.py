@@ -29,7 +29,8 @@ def write_table_json(source: Source, table: list[Figures], path: str) -> None:
 
 
 def tell_difference(one: str, other: str, path: Optional[str]) -> None:
-    """Prints the first difference of two histories; the exit status shows whether they differ."""
+    """Prints the first difference of two histories, and writes JSON if there is a path. Ends the process with status 1 if the
+    histories differ."""
     from hinge.replays.parting import parting
 
     refuse_inputs((path,), (one, other))
@@ -46,7 +47,8 @@ def tell_difference(one: str, other: str, path: Optional[str]) -> None:
 
 
 def tell_of(source: Source, options: LookOptions, head: str) -> None:
-    """Writes a source's files; then prints its table, as the reader may close the pipe."""
+    """Writes a source's captures, then prints its table below `head`, and writes the table as JSON. The captures come first, since
+    the table's reader may close the pipe."""
     table = table_of(source.replay, source.parts, options.by, options.top or TABLE_FLOWS)
     for name in options.files(*CAPTURES):
         from hinge.captures.through import write_through
@@ -60,7 +62,7 @@ def tell_of(source: Source, options: LookOptions, head: str) -> None:
 
 
 def judge_run(path: str) -> None:
-    """Checks whether a run followed its words, and ends the process with a special status if not."""
+    """Prints how the links in a run's history agree with its options' words; ends the process with status 1 if they don't."""
     from hinge.plans.sessions import judged_run
 
     judge = judged_run(path)

@@ -19,7 +19,7 @@ TIMED = ("submit", "advance", "collect")  # whose last field is a moment
 
 
 class Entry(NamedTuple):
-    """A call and its reply."""
+    """Describes a call in a history, with its reply."""
 
     number: int  # of the call, from 1
     line: int  # of its record in the file
@@ -34,7 +34,7 @@ class Entry(NamedTuple):
         return int(fields[-1]) if fields[2:] and fields[2] in TIMED and is_number(fields[-1]) else None
 
     def known(self) -> dict[str, Any]:
-        """Returns the entry for JSON."""
+        """Returns the call and its reply for JSON."""
         front = {"call": self.number, "line": self.line, "row": self.row, "moment_ns": self.moment}
         return {**front, "text": self.call, "reply": list(self.reply)}
 
@@ -74,7 +74,7 @@ class Parting(NamedTuple):
 
     @property
     def number(self) -> int:
-        """The first call that differs."""
+        """Returns the number of the first call that differs."""
         return next(result[0].number for result in self.after if result)
 
     def reason(self) -> str:
@@ -85,7 +85,7 @@ class Parting(NamedTuple):
         return "the calls differ" if one[0].call != other[0].call else "its replies differ"
 
     def at(self) -> str:
-        """When it was made, if a call says so."""
+        """Returns the moment of the first call that differs, as text; an empty text if neither call contains a moment."""
         moment = next((result[0].moment for result in self.after if result and result[0].moment is not None), None)
         return "" if moment is None else f", at {moment / NS_PER_S:.9f} s"
 

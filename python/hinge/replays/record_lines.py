@@ -17,7 +17,7 @@ BEGINNINGS = (b"dummynet-history,", b"dummynet-live,")
 
 
 class Row(NamedTuple):
-    """A record: its first line's number, its text with the line end, and its fields."""
+    """Holds a record: the number of the first line, the text with the line end, and the fields."""
 
     line: int
     text: str
@@ -36,8 +36,8 @@ def rows_of(file: BinaryIO, line: int = 1, encoding: str = "utf-8-sig") -> Itera
 
 
 def without_quotes(path: str) -> Iterator[bytes]:
-    """Yields a file's content without quotes. From the first quote on it comes at once, since quotes can contain line ends. Exceeded:
-    that part is too long."""
+    """Yields a file's content without quotes. The part from the first quote on is a single item, since quotes can contain line
+    ends. Exceeded: this part is too long."""
     with opened(path, MOST_TABLE) as file:
         line = file.readline(MOST_TEXT + 1).removeprefix(BYTE_ORDER_MARK)
         while line and b'"' not in line:

@@ -21,7 +21,7 @@ PROTOCOLS = {1: "icmp", 6: "tcp", 17: "udp", 58: "icmpv6", 132: "sctp"}
 
 @dataclass(frozen=True)
 class Packets:
-    """A packet file. `target` and `five_tuple` number the names in `targets` and `tuples`."""
+    """Holds a packet file as columns. `target` and `five_tuple` contain places in `targets` and `tuples`."""
 
     path: str
     moment: Integers
@@ -47,7 +47,7 @@ class Packets:
 
 @dataclass(frozen=True)
 class Replay:
-    """The results of the packets in a packet file."""
+    """Holds the results for a packet file's packets: events, flows, and the moments of sending, transmission and leaving in ns."""
 
     path: str
     packets: Packets
@@ -80,7 +80,8 @@ def dotted(address: int) -> str:
 
 
 def packets_of(path: str, rows: Rows, moment: Integers, remarked: Mapping[str, str]) -> Packets:
-    """Rows with these moments, and with IPv6 addresses from remarks and from the neighbouring file."""
+    """Returns rows as packets with these moments. IPv6 addresses replace IPv4 stand-ins: addresses from `remarked`, or from the
+    neighbouring file."""
     columns, five = rows.columns, rows.tuples
 
     def used() -> set[str]:

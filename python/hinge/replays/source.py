@@ -19,7 +19,7 @@ from hinge.replays.replay import NONE, Replay, read_packets, read_report
 
 @dataclass(frozen=True)
 class Source:
-    """The packets' fates."""
+    """Holds a replay with the files and, if known, the configuration and the host's remarks."""
 
     replay: Replay
     files: tuple[str, ...]
@@ -49,13 +49,13 @@ class Source:
         return list(bounds(self.replay, self.parts.configuration)) if self.parts and self.is_steady else None
 
     def explained(self) -> Parts:
-        """Returns the delays' parts, or the reason for their absence. Fault: a paragraph needs them."""
+        """Returns the parts of the delays. Fault: the configuration is unknown, and a paragraph needs it."""
         if self.parts is None:
             raise Fault("a paragraph needs the configuration: --config FILE", USAGE)
         return self.parts
 
     def remarks(self) -> Iterator[str]:
-        """Returns remarks for a table or a picture: rows without a target, and a history's remarks on its host."""
+        """Yields the remarks for a table: rows without a target, packets with a flipped bit, and the host's lateness."""
         yield from untargeted_lines(self.replay)
         if self.replay.flips:
             yield f"{several(len(self.replay.flips), 'packet')} left with a flipped bit"
@@ -77,7 +77,8 @@ def untargeted(replay: Replay) -> dict[str, int]:
 
 
 def untargeted_lines(replay: Replay) -> Iterator[str]:
-    """Yields a line for each target that isn't configured, so that a wrong number is noticed, and one if no row has a target."""
+    """Yields a text for each target that isn't configured, so that users notice a wrong number, and another if no row has a
+    target."""
     table = untargeted(replay)
     for target, count in table.items():
         yield f"{several(count, 'row')} went to {target}, which isn't configured"
@@ -94,7 +95,8 @@ def of_reports(packets_path: str, reports: list[str], config: Optional[str]) -> 
 
 
 def seen(source: Source) -> Source:
-    """Returns a run's packets as its programs send them: a packet with jitter once, though two pipes pass it, and no outage's packet."""
+    """Returns the source with only those packets that a run's programs sent. A packet that passed two pipes, because of jitter or a
+    separate delay, is a single row. Packets that represent an outage are left out."""
     parts = source.parts if source.is_history else None
     if parts is None:
         return source
@@ -115,7 +117,8 @@ def seen(source: Source) -> Source:
 
 
 def joined(replay: Replay, again: dict[int, int]) -> Replay:
-    """Returns a replay in which each packet leaves at the end of its last pass."""
+    """Returns a replay in which each packet leaves the first pipe when the packet leaves the last pipe. `again` contains each
+    packet's row in the next pipe."""
     event, due = replay.event.copy(), replay.due.copy()
     for first, last in sorted(again.items(), reverse=True):  # so that the later passes of a packet are joined before
         event[first], due[first] = event[last], due[last]
@@ -133,7 +136,8 @@ def chosen(replay: Replay, rows: Integers) -> Replay:
 
 
 def without_help(parts: Parts, has_passes: bool) -> Configuration:
-    """Returns the configuration without second passes, and without lines that slow a pipe down in an outage."""
+    """Returns the configuration without lines that slow a pipe down in an outage and, with `has_passes`, without the pipes to which
+    a host passes packets again."""
     lines = parts.configuration
     changes = [
         change

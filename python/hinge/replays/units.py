@@ -6,7 +6,7 @@ from typing import Iterable
 
 
 def ms(ns: int) -> str:
-    """Milliseconds with all six digits, so that sums can be checked by eye."""
+    """Returns milliseconds with all six decimal places, so that readers can check sums."""
     return f"{ns // 10**6:,}.{ns % 10**6:06d} ms"
 
 
@@ -25,7 +25,7 @@ def packets(count: int) -> str:
 
 
 def rows(numbers: Iterable[int], most: int = 8) -> str:
-    """Row numbers with runs as `3-7`, at most so many runs."""
+    """Returns the row numbers as text, with runs such as `3-7`. After `most` runs only the number of the other rows follows."""
     runs: list[list[int]] = []
     for number in sorted(numbers):
         if runs and runs[-1][1] == number - 1:
