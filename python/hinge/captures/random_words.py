@@ -13,7 +13,7 @@ QUEUES = 1 << 16  # behind the directions of pipes
 
 def direction_of(kind: str, number: Union[int, str]) -> int:
     """Returns the direction of a pipe or queue."""
-    return int(number) + QUEUES * (kind == "queue")
+    return int(number) + (QUEUES if kind == "queue" else 0)
 
 
 def direction_name(direction: int) -> str:
