@@ -18,8 +18,9 @@ from hinge.replays.groups import places_of
 from hinge.replays.replay import NONE, Replay
 
 NS_PER_MS, BITS_NS = 10**6, 8 * 10**9
-RECORD, MOMENT, UNKNOWN = 0, 1, -1
-WORDS_OF_NOBODY = 0, 255 << 48
+RECORD, MOMENT = 0, 1  # a spell's fields
+UNKNOWN = -1
+WORDS_OF_NOBODY = 0, 255 << 48  # the two 64-bit numbers of the five-tuple that marks an outage's packets
 BEFORE_ALL = -1  # the record of a command that came before each call
 
 
@@ -67,7 +68,8 @@ class Configuration:
         then. `key` is RECORD or MOMENT."""
         own = self.by_target.get(target, [])
         begins = np.array([self.spells[place][:2][key] for place in own], np.int64)
-        table = np.array([UNKNOWN, *(place if self.spells[place].setting else UNKNOWN for place in own)], np.int64)
+        in_force = [place if self.spells[place].setting else UNKNOWN for place in own]
+        table = np.array([UNKNOWN, *in_force], np.int64)
         if len(before) and begins.max(initial=BEFORE_ALL) < before.min():
             return np.full(len(before), table[-1])
         found: Integers = table[np.searchsorted(begins, before, side="left")]
@@ -81,7 +83,8 @@ class Configuration:
     def values(self, places: Integers, value: Callable[[Setting], int]) -> Integers:
         """Returns a value, such as the bandwidth, from the spell at each place; 0 for UNKNOWN, and after a delete."""
         if value not in self.tables:
-            self.tables[value] = np.array([*(value(spell.setting) if spell.setting else 0 for spell in self.spells), 0], np.int64)
+            numbers = [value(spell.setting) if spell.setting else 0 for spell in self.spells]
+            self.tables[value] = np.array([*numbers, 0], np.int64)  # the last number is that of UNKNOWN, which is -1
         found: Integers = self.tables[value][places]
         return found
 
@@ -140,7 +143,8 @@ class Parts:
         replay = self.replay
         found = np.full(len(self.own), UNKNOWN, np.int64)
         for number, rows in enumerate(places_of(self.pipe, int(self.pipe.max(initial=0)) + 1)):
-            if number and len(start := replay.start[rows]):
+            start = replay.start[rows]
+            if number and len(start):
                 on_coming = self.configuration.places(("pipe", number), replay.submitted[rows], RECORD)
                 later = self.configuration.places(("pipe", number), start, MOMENT)
                 found[rows] = np.where(start > replay.at[rows], later, on_coming)
@@ -154,8 +158,9 @@ class Parts:
     @cached_property
     def of_nobody(self) -> int:
         """The number of the five-tuple for packets with which a host keeps a link busy in an outage, or UNKNOWN."""
-        words = self.replay.packets.words if self.configuration.path == self.replay.path else None
-        return words.number_of(*WORDS_OF_NOBODY) if words else UNKNOWN
+        words = self.replay.packets.words
+        is_history = self.configuration.path == self.replay.path
+        return words.number_of(*WORDS_OF_NOBODY) if words and is_history else UNKNOWN
 
     @cached_property
     def of_outages(self) -> set[int]:
@@ -165,10 +170,12 @@ class Parts:
     @cached_property
     def transmission(self) -> Integers:
         """Returns the transmission times in ns, rounded up; 0 if the bandwidth is unlimited."""
-        spells, length = self.configuration.spells, self.replay.packets.length
+        spells = self.configuration.spells
+        length = self.replay.packets.length
         found = np.zeros(len(length), np.int64)
         for spell, rows in zip(spells, places_of(self.carrier + 1, len(spells) + 1)[1:]):
-            if spell.setting and (bandwidth := bandwidth_of(spell.setting)):
+            bandwidth = bandwidth_of(spell.setting) if spell.setting else 0
+            if bandwidth:
                 found[rows] = -(length[rows] * -BITS_NS // bandwidth)
         return found
 
@@ -193,7 +200,9 @@ class Parts:
     def check(self) -> Parts:
         """Checks the parts; returns this object. Fault: a row's parts don't add up to its delay, so the configuration is wrong."""
         _, behind = self.delay_and_behind(slice(None))
-        wrong = (behind < 0) | (behind > 0) & (len(self.configuration.by_target) == len(self.configuration.spells))
+        wrong = behind < 0
+        if len(self.configuration.by_target) == len(self.configuration.spells):  # no delay became shorter
+            wrong |= behind > 0
         wrong |= (self.own == UNKNOWN) & (self.replay.event != NONE)
         if wrong.any():
             raise self.another(f"row {int(np.argmax(wrong)) + 1} would have fared otherwise")
@@ -201,10 +210,8 @@ class Parts:
 
     def another(self, what: str) -> Fault:
         """Returns the fault that something else, which `what` describes, would have happened with this configuration."""
-        path, own = self.replay.path, self.configuration.path
-        why = (
-            f"`dummynet audit {path}` says where it isn't lawful"
-            if path == own
-            else f"{path} is the report of another configuration"
-        )
-        return Fault(f"{what} by {own}: {why}", ROWS)
+        path = self.replay.path
+        own = self.configuration.path
+        if path == own:
+            return Fault(f"{what} by {own}: `dummynet audit {path}` says where it isn't lawful", ROWS)
+        return Fault(f"{what} by {own}: {path} is the report of another configuration", ROWS)

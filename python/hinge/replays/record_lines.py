@@ -30,7 +30,8 @@ class Row(NamedTuple):
 def rows_of(file: BinaryIO, line: int = 1, encoding: str = "utf-8-sig") -> Iterator[Row]:
     """Yields the records of a file from this line on. A quoted field may contain line ends, and empty lines don't count."""
     lines, copies = tee(lines_of(io.TextIOWrapper(file, encoding, "replace", newline="")))
-    reader, count = csv.reader(lines), 0
+    reader = csv.reader(lines)
+    count = 0
     for fields in reader:
         text = "".join(islice(copies, reader.line_num - count))
         if fields:

@@ -13,8 +13,8 @@ from hinge.lazy import Reals, few as np
 
 NS_PER_S, NS_PER_MS = 10**9, 10**6
 KINDS = ("late", "unread")
-LEAST_LATE = 0.001  # ms, of a host whose lateness is told and drawn: in simulated time it is less
-# of each way, `late` and `unread`: moments in s, and the most until then in ms
+LEAST_LATE = 0.001  # ms, from which on lateness is reported and drawn; in simulated time lateness is less
+# for each way (one direction of a link), and for `late` and `unread`: moments in s, and the maximum in ms up to each moment
 Lateness = dict[str, dict[str, tuple[Reals, Reals]]]
 
 

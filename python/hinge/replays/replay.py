@@ -31,7 +31,7 @@ class Packets:
     word: Integers
     targets: list[tuple[str, int]]
     tuples: Sequence[tuple[str, str, int, int, int]]
-    words: Optional[Tuples] = None  # of the same five-tuples
+    words: Optional[Tuples] = None  # the same five-tuples as numbers
 
     def __len__(self) -> int:
         return len(self.moment)
@@ -57,9 +57,9 @@ class Replay:
     at: Integers
     start: Integers
     due: Integers
-    submitted: Integers  # the record of the call, and that of the delivery; in a report each comes behind all commands
-    handed: Integers
-    flips: dict[int, tuple[int, int]]  # by packets: the flipped bit from the last on, and of how many
+    submitted: Integers  # the record of the call that submitted the packet; in a report, all records come behind all commands
+    handed: Integers  # the record that handed the packet over
+    flips: dict[int, tuple[int, int]]  # for packets with a flipped bit: the bit, counted from the last, and the number of bits
 
     @cached_property
     def is_out(self) -> Mask:
@@ -85,14 +85,15 @@ def packets_of(path: str, rows: Rows, moment: Integers, remarked: Mapping[str, s
     columns, five = rows.columns, rows.tuples
 
     def used() -> set[str]:
-        both = set(five.words[::2])
-        return {dotted(address) for word in both for address in (word >> 32 & 0xFFFFFFFF, word & 0xFFFFFFFF)}
+        pairs = set(five.words[::2])
+        return {dotted(address) for pair in pairs for address in (pair >> 32 & 0xFFFFFFFF, pair & 0xFFFFFFFF)}
 
     addresses = {**read_addresses(path, used), **remarked}
 
     def named(place: int) -> tuple[str, str, int, int, int]:
         src, dst, *more = five.numbers(place)
-        return (*(addresses.get(dotted(address), dotted(address)) for address in (src, dst)), *more)  # type: ignore[return-value]
+        ends = (addresses.get(dotted(address), dotted(address)) for address in (src, dst))
+        return (*ends, *more)  # type: ignore[return-value]
 
     tuples = Lazily(len(five.words) // 2, named)
     target, five_tuple, length, word = (columns[name] for name in ("target", "five_tuple", "length", "word"))
@@ -111,7 +112,8 @@ def read_report(path: str, packets: Packets) -> Replay:
         raise Fault(f"{path}: its {count} lines aren't those of the {len(packets)} rows of {packets.path}", ROWS)
     is_early = columns["at"] < packets.moment
     if is_early.any():
-        row, why = int(np.argmax(is_early)) + 1, "it is the report of other packets"
+        row = int(np.argmax(is_early)) + 1
+        why = "it is the report of other packets"
         raise Fault(f"{path}: row {row} was sent before its moment in {packets.path}: {why}", ROWS)
     calls = np.zeros(len(packets), np.int64)
     return Replay(path, packets, **columns, submitted=calls, handed=columns["packet"], flips={})

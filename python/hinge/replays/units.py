@@ -33,6 +33,7 @@ def rows(numbers: Iterable[int], most: int = 8) -> str:
         else:
             runs.append([number, number])
     view = ", ".join(str(low) if low == high else f"{low}-{high}" for low, high in runs[:most])
+    if len(runs) == 1 and runs[0][0] == runs[0][1]:
+        return f"row {view}"
     rest = sum(high - low + 1 for low, high in runs[most:])
-    plural = "row" if len(runs) == 1 and runs[0][0] == runs[0][1] else "rows"
-    return f"{plural} {view}" + (f" and {rest:,} more" if rest else "")
+    return f"rows {view} and {rest:,} more" if rest else f"rows {view}"
