@@ -42,18 +42,20 @@ class Rules:
         """Yields operations at whose end a rule is broken."""
         for one in self.gets:
             put = self.puts.get(one.result)
-            if put is None or one.end < put.begin or one is not self.first[one.result] or self.until(put.begin) > one.end:
-                yield one  # its value wasn't put yet, was got before, or overtook another
+            if put is None or one.end < put.begin:
+                yield one  # its value wasn't put yet
+            elif one is not self.first[one.result] or self.until(put.begin) > one.end:
+                yield one  # its value was got before, or overtook another value
         for one in self.empty:
             moment = one.begin
             while moment < self.until(moment) <= one.end:
                 moment = self.until(moment)
             if self.until(moment) > moment:
-                yield one  # at no moment might the queue be empty
+                yield one  # the queue contained a value at all moments of this get
         begins = [one.begin for one in self.silent]
         for count, (_, one) in enumerate(self.due() if self.silent else ()):
             if bisect_right(begins, one.end) <= count:
-                yield one  # nobody is left who might have got the value that came before
+                yield one  # no get is left that might have got the value before this one
 
     def due(self) -> list[tuple[str, Operation]]:
         """Returns the values that no known get returned, each with the first get at whose end the value must have left."""
