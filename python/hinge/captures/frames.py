@@ -19,11 +19,18 @@ from hinge.program import packets
 
 NAME = "hinge-packets"
 PORTED = {6: "tcp", 17: "udp", 132: "sctp", 136: "udp", 33: "dccp"}
-HEAD, ADDRESS, FLOW, FRAME, COUNTS, MEETING = map(Struct, ("=6Q", "=16sQ", "=IIHHBBxx", "=QqQII", "=7Q", "=3I"))
+# the records of the program's answer
+HEAD = Struct("=6Q")
+ADDRESS = Struct("=16sQ")
+FLOW = Struct("=IIHHBBxx")
+FRAME = Struct("=QqQII")
+COUNTS = Struct("=7Q")
+MEETING = Struct("=3I")
 NOT_VALID = "a block of the capture isn't valid"
-MAPPED = 0xFFFF << 32  # what is above an address of IPv4 in a number of IPv6
+MAPPED = 0xFFFF << 32  # the bits above an IPv4 address in an IPv6 number
 FASTEST = 1 << 62  # bit/s, at which any packet takes 1 ns
-FAULT, SYSTEM = 4, (5, 6)  # the statuses with which it ends in a fault, and where the system refuses something
+FAULT = 4  # the program's exit status for a fault
+SYSTEM = (5, 6)  # the exit statuses if the system refuses a call
 
 
 class Frame(NamedTuple):
@@ -87,11 +94,13 @@ class Capture:
     first frames."""
 
     def __init__(self, name: str, program: "Process[bytes]", by_frame: bool) -> None:
-        self.name, self.program, self.read = name, program, cast(BinaryIO, program.stdout).read
-        self.frame_count, self.packet_count, self.long, self.is_cut, addresses, flows = HEAD.unpack(
-            self.whole(HEAD.size, f"{name}: ")
-        )
-        self.ends, self.address = self.whole(ADDRESS.size * addresses), cache(self.address_of)
+        self.name = name
+        self.program = program
+        self.read = cast(BinaryIO, program.stdout).read
+        head = HEAD.unpack(self.whole(HEAD.size, f"{name}: "))
+        self.frame_count, self.packet_count, self.long, self.is_cut, addresses, flows = head
+        self.ends = self.whole(ADDRESS.size * addresses)
+        self.address = cache(self.address_of)
         self.flows = self.whole(FLOW.size * flows)
         self.items = self.whole(FRAME.size * self.packet_count) if by_frame else None
 
@@ -104,19 +113,25 @@ class Capture:
             status = self.program.wait()
             if status in SYSTEM:
                 raise OSError(int(text), os.strerror(int(text)))
-            told = (prefix + text, ROWS) if status == FAULT else (f"{NAME} {how_ended(status)}", FILES)
-            raise Fault(*told)
+            if status == FAULT:
+                raise Fault(prefix + text, ROWS)
+            raise Fault(f"{NAME} {how_ended(status)}", FILES)
         return data
 
     def address_of(self, number: int) -> str:
         address, is_six = ADDRESS.unpack_from(self.ends, number * ADDRESS.size)
-        return socket.inet_ntop(*((socket.AF_INET6, address) if is_six else (socket.AF_INET, address[12:])))
+        if is_six:
+            return socket.inet_ntop(socket.AF_INET6, address)
+        return socket.inet_ntop(socket.AF_INET, address[12:])
 
     @cached_property
     def keys(self) -> list[int]:
         """Returns the addresses as IPv6 numbers, which only rules about hosts need."""
-        both = ADDRESS.iter_unpack(self.ends)
-        return [int.from_bytes(it, "big") if six else MAPPED | int.from_bytes(it[12:], "big") for it, six in both]
+        numbers = list[int]()
+        for address, is_six in ADDRESS.iter_unpack(self.ends):
+            number = int.from_bytes(address if is_six else address[12:], "big")
+            numbers.append(number if is_six else MAPPED | number)
+        return numbers
 
     def frame(self, number: int, flow: int) -> Frame:
         src, dst, sport, dport, proto, dscp = FLOW.unpack_from(self.flows, flow * FLOW.size)
@@ -145,7 +160,8 @@ class Capture:
         originals = array("I", self.whole(4 * counts.stand_ins))
         meetings = MEETING.iter_unpack(self.whole(MEETING.size * counts.meetings))
         hosts = [(target, self.address(first), self.address(second)) for target, first, second in meetings]
-        if status := self.program.wait():
+        status = self.program.wait()
+        if status:
             raise Fault(f"{NAME} {how_ended(status)}", FILES)
         return counts, [*map(self.address, originals)], hosts
 
@@ -162,7 +178,8 @@ def read_capture(capture: Input, plan: RowPlan, out: int, index: Optional[int] =
         copies = [os.dup(number) for number in (source.fileno(), out, index) if number is not None]
         for number in copies:
             files.callback(os.close, number)
-        numbers = [*copies, -1][:3] + [plan.mtu, min(plan.rate, FASTEST), plan.l2, plan.seed, int(by_frame)]
+        descriptors = copies if index is not None else [*copies, -1]
+        numbers = [*descriptors, plan.mtu, min(plan.rate, FASTEST), plan.l2, plan.seed, int(by_frame)]
         words = [packets(), *map(str, numbers)]
         program = files.enter_context(begun(words, stdin=PIPE, stdout=PIPE, stderr=PIPE, pass_fds=copies))
         files.callback(program.kill)

@@ -8,7 +8,7 @@ from __future__ import annotations
 from typing import Union
 
 MASK = (1 << 64) - 1  # of 64-bit arithmetic
-QUEUES = 1 << 16  # behind the directions of pipes
+QUEUES = 1 << 16  # a queue's direction is its number and this; a pipe's direction is its number
 
 
 def direction_of(kind: str, number: Union[int, str]) -> int:

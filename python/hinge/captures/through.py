@@ -18,8 +18,8 @@ SECTION, INTERFACE, PACKET = 0x0A0D0D0A, 1, 6
 BYTE_ORDER, UNKNOWN_LENGTH = 0x1A2B3C4D, -1
 END, COMMENT, TIME_RESOLUTION = 0, 1, 9
 NANOSECONDS = b"\x09"
-MOST_BYTES = 65_000  # of a comment, whose length has 16 bits
-MOST_COMMENTS = 3  # of a frame that was split into more packets
+MOST_BYTES = 65_000  # the longest comment, since a comment's length has 16 bits
+MOST_COMMENTS = 3  # the most comments on a frame, which may have been split into more packets
 
 
 def frames_of_rows(path: str, replay: Replay) -> Integers:
@@ -95,9 +95,11 @@ def write_commented(capture: CaptureFile, frames: Integers, tell: Callable[[int]
     write_head(out, capture.link_type)
     for number, record in enumerate(capture.records, 1):
         data = capture.data[record.begin : record.end]
-        comments = b"".join(comment(tell(row)) for row in rows.get(number, [])[:MOST_COMMENTS])
+        options = b"".join(comment(tell(row)) for row in rows.get(number, [])[:MOST_COMMENTS])
+        if options:
+            options += option(END, b"")
         head = struct.pack("<IIIII", 0, record.time >> 32, record.time & 0xFFFFFFFF, len(data), record.length)
-        out.write(block(PACKET, head + data + bytes(-len(data) % 4) + (comments + option(END, b"") if comments else b"")))
+        out.write(block(PACKET, head + data + bytes(-len(data) % 4) + options))
     return len(rows)
 
 
@@ -109,7 +111,8 @@ def write_through(source: Source, capture_name: str, index: str, path: str) -> s
     with capture_file(capture_name) as capture:
         refuse_other(capture, frames)
         if explainer is None:
-            return f"{len(capture.records)} frames, of which {write_arrivals(capture, source.replay, frames, path)} arrive"
+            count = write_arrivals(capture, source.replay, frames, path)
+            return f"{len(capture.records)} frames, of which {count} arrive"
         with written(path) as place, working("commenting"), open(place, "wb") as out:
             comments = write_commented(capture, frames, explainer.paragraph, out)
         return f"{len(capture.records)} frames, of which {comments} have a comment"

@@ -83,11 +83,11 @@ class Search:
                 continue
             if count > self.most:
                 raise TooMany
-            following = self.following(goal, mask, state)
-            pending += following
-            count += len(following)
+            successors = self.successors(goal, mask, state)
+            pending += successors
+            count += len(successors)
 
-    def following(self, goal: int, mask: int, state: Hashable) -> list[Configuration]:
+    def successors(self, goal: int, mask: int, state: Hashable) -> list[Configuration]:
         """Returns the configurations after one more operation: the goal, or an operation that may have to precede the goal."""
         waiting = [operation for bit, operation in self.pure.items() if not mask & bit]
         useful = set(self.model.useful(state, waiting, self.places))
@@ -144,10 +144,10 @@ def is_impossible(operations: list[Operation], kind: type[Model]) -> bool:
         return False
 
 
-def failing_keys(name: str, keys: dict[str, list[Operation]], kind: type[Model], findings: Findings) -> dict[str, Operation]:
+def failures_of(name: str, keys: dict[str, list[Operation]], kind: type[Model], findings: Findings) -> dict[str, Operation]:
     """Returns the keys whose operations lack an order, each with the operation at whose end no order remains. Reports the keys with
     too many orders to try."""
-    failing = dict[str, Operation]()
+    failures = dict[str, Operation]()
     for key, operations in keys.items():
         try:
             last = first_impossible(operations, kind)
@@ -155,27 +155,29 @@ def failing_keys(name: str, keys: dict[str, list[Operation]], kind: type[Model],
             findings.fault(name, f"key {key}: too many orders of {len(operations):,} operations to try; use more keys", ROWS)
             continue
         if last:
-            failing[key] = last
-    return failing
+            failures[key] = last
+    return failures
 
 
-def show_failures(name: str, keys: dict[str, list[Operation]], failing: dict[str, Operation], kind: type[Model]) -> list[Operation]:
+def show_failures(
+    name: str, keys: dict[str, list[Operation]], failures: dict[str, Operation], kind: type[Model]
+) -> list[Operation]:
     """Shows the keys whose operations lack an order, and the fewest such operations on the key that fails first; returns these
     operations. The key that fails first is the key with the fewest operations up to its failure."""
-    for key in list(failing)[:MOST_FAULTS]:
+    for key in list(failures)[:MOST_FAULTS]:
         show(printable(f"{name}: key {key}: {several(len(keys[key]), 'operation')} without an order"))
-    first = min(failing, key=lambda key: sum(operation.begin <= failing[key].end for operation in keys[key]))
+    first = min(failures, key=lambda key: sum(operation.begin <= failures[key].end for operation in keys[key]))
     show(f"key {first} fails by these alone:")
-    fewest = least(keys[first], kind, failing[first])
+    fewest = least(keys[first], kind, failures[first])
     for operation in fewest:
         show(printable(f"{name}:{operation.line}: {operation.told()}"))
     return fewest
 
 
-def verdict(failures: int, findings: Findings) -> str:
+def verdict(count: int, findings: Findings) -> str:
     """Returns the verdict on the keys, in words."""
-    if failures:
-        return f"{failures} without an order"
+    if count:
+        return f"{count} without an order"
     if findings.status:
         return "not all judged"
     return "each with an order"
@@ -190,13 +192,13 @@ def check_operations(name: str, data: bytes, model: str, findings: Findings) -> 
         findings.fault(name, "no operation returned with a result, so nothing can be judged; let clients read", ROWS)
         return []
     fewest = list[Operation]()
-    failing = failing_keys(name, keys, kind, findings)
-    if failing:
-        findings.faults += len(failing)
+    failures = failures_of(name, keys, kind, findings)
+    if failures:
+        findings.faults += len(failures)
         findings.status = findings.status or NO_ORDER
-        fewest = show_failures(name, keys, failing, kind)
+        fewest = show_failures(name, keys, failures, kind)
     sys.stdout.flush()
     unknown = sum(not operation.is_over for operation in operations)
-    counts = f"{several(len(operations), 'operation')} on {several(len(keys), 'key')}, {verdict(len(failing), findings)}"
+    counts = f"{several(len(operations), 'operation')} on {several(len(keys), 'key')}, {verdict(len(failures), findings)}"
     tell(f"{name}: {counts}; {unknown} never returned, {refusals} refused")
     return fewest

@@ -282,8 +282,8 @@ def read_told(path: str, kind: str, widths: Widths) -> Told:
         kinds = answer.targets(targets)
         five = Tuples(answer.numbers(2 * tuples))
         lines = str(answer.bytes(changes), "utf-8", "replace").split("\n")[:-1]
-        parted = (line.split(",", 2) for line in lines)
-        commands = [(int(record), int(moment), text) for record, moment, text in parted]
+        fields = (line.split(",", 2) for line in lines)
+        commands = [(int(record), int(moment), text) for record, moment, text in fields]
         text = bytes(answer.bytes(remarks))
         is_steady = first < 0 or all(record < first for record, _, _ in commands)
         has_one_pass = all(target == "queue" or number <= LAST_OF_LINKS for target, number in kinds)

@@ -187,7 +187,7 @@ class LinkOrder:
             elif not is_again[place]:
                 left = []
             else:
-                first = next((passed for passed in left if passed not in table and self.is_alike(passed, place)), None)
+                first = next((earlier for earlier in left if earlier not in table and self.is_alike(earlier, place)), None)
                 if first is not None:
                     table[first] = place
         return table

@@ -25,7 +25,7 @@ def write_table_json(source: Source, table: list[Figures], path: str) -> None:
     if source.lateness:
         most = {kind: source.most_late(kind) for kind in KINDS}
     flows: list[dict[str, object]] = [{"flow": row.name, **row.value} for row in table]
-    pipes = None if source.bounds is None else [bounded.figures() for bounded in source.bounds]
+    pipes = None if source.bounds is None else [pipe.figures() for pipe in source.bounds]
     head = {"format": FORMAT, "history": source.replay.path, "seed": source.seed, "lateness_ms": most}
     write_json(path, {**head, "pipes": pipes, "flows": flows})
 

@@ -98,10 +98,10 @@ class Parting(NamedTuple):
     def text(self) -> str:
         """Returns the calls around the difference: common calls, calls in the first history (-) and calls in the second (+)."""
         groups = ((" ", self.before), ("-", self.after[0]), ("+", self.after[1]))
-        signed = [(sign, entry) for sign, group in groups for entry in group]
-        width = max(len(str(entry.number)) for _, entry in signed)
+        pairs = [(sign, entry) for sign, group in groups for entry in group]
+        width = max(len(str(entry.number)) for _, entry in pairs)
         lines = []
-        for sign, entry in signed:
+        for sign, entry in pairs:
             row = "" if entry.row is None else f"  (row: {entry.row})"
             lines.append(f"{sign} {entry.number:>{width}}  {entry.call}{row}")
             lines += [f"{sign} {'':{width}}  {record}" for record in entry.reply]

@@ -114,7 +114,7 @@ def seen(source: Source) -> Source:
     # A proved bound is on the delay of a single pipe, and the parts of the whole source have been checked.
     bounds = source.bounds
     if bounds and again:
-        bounds = [bounded for bounded in bounds if bounded.bound.pipe <= LAST_OF_LINKS]
+        bounds = [pipe for pipe in bounds if pipe.bound.pipe <= LAST_OF_LINKS]
     result.__dict__.update(parts=Parts(replay, configuration), bounds=bounds)
     return result
 

@@ -47,10 +47,10 @@ class SpellTimes:
         spells = self.parts.configuration.spells
         places = self.parts.configuration.by_target[spells[number].target]
         turns = self.turns(number, value)
-        following = bisect_right(turns, bisect_left(places, number))
-        first = turns[following - 1]
+        end = bisect_right(turns, bisect_left(places, number))
+        first = turns[end - 1]
         since = spells[places[first]].moment if first else None
-        until = spells[places[turns[following]]].moment if following < len(turns) else None
+        until = spells[places[turns[end]]].moment if end < len(turns) else None
         return since, until
 
     def in_force(self, number: int, value: Value) -> str:
