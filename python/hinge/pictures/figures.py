@@ -92,16 +92,18 @@ def of_rows(replay: Replay, rows: Rows, flows: list[slice]) -> Iterator[Value]:
         yield value | {EVENT_NAMES[kind]: int(np.count_nonzero(event[flow] == kind)) for kind in (OUT, LOST, FULL, NONE, HELD)}
 
 
+def sums_of(column: Integers, flows: list[slice]) -> list[int]:
+    """Returns the sum of each flow's numbers in a column."""
+    return [exact_sum(column[flow]) for flow in flows]
+
+
 def of_delays(replay: Replay, parts: Optional[Parts], out: Rows, flows: list[slice]) -> Iterator[Value]:
     """Yields each flow's figures for packets that left, and finally those for all flows, without jitter. The delays' parts need
     the configuration."""
     columns = [replay.at, replay.due, replay.packets.length, replay.start]
     if parts:
         columns.append(parts.transmission)
-    sums_of_columns = list[list[int]]()
-    for column in columns:
-        column_out = column[out]
-        sums_of_columns.append([exact_sum(column_out[flow]) for flow in flows])
+    sums_of_columns = [sums_of(column[out], flows) for column in columns]
     sums = list(zip(*sums_of_columns))
     all_sums = tuple(sum(sums_of_column) for sums_of_column in sums_of_columns)
     due, packet, took = replay.due[out], replay.packet[out], replay.took[out]

@@ -84,7 +84,7 @@ class HtmlPage:
     """Prepares the data of a replay, or of a net without series, for a page. `tell` returns the text about a packet."""
 
     def __init__(self, drawing: Drawing, tell: Callable[[int], str], flows_in_time: Optional[Series] = None) -> None:
-        self.found = flows_in_time
+        self.series = flows_in_time
         self.drawing = drawing
         self.tell = tell
         self.progress = Progress("packets told of")
@@ -108,15 +108,15 @@ class HtmlPage:
         """Yields the band, with the packets' points and texts."""
         yield part(item, *outline(item.x, item.low, item.high), fill=0.3)
         yield part(item, np.repeat(item.x, 2)[1:-1], np.repeat(item.middle, 2))
-        if self.found:
-            yield from self.points(item, self.found.flows[item.flow].out_places, self.found)
+        if self.series:
+            yield from self.points(item, self.series.flows[item.flow].out_places, self.series)
 
     @parts.register
     def _(self, item: Points) -> Iterator[Part]:
         if item.is_cross:
             yield part(item, item.x, item.y, width=1, cross=True, words=self.texts(item.places))
-        elif self.found:
-            yield from self.points(item, item.places, self.found)
+        elif self.series:
+            yield from self.points(item, item.places, self.series)
         else:
             some = spread(np.arange(len(item.places)), MOST_OF_WAY)
             words = {} if item.flow is None else {"words": self.texts(item.places[some])}
@@ -142,7 +142,7 @@ class HtmlPage:
     def panel(self, number: int, panel: Panel) -> Part:
         self.base = np.zeros(0)
         is_of_packets = any(isinstance(item, (Band, Points)) for item in panel.items)
-        marks = Panels(self.found).drop_points() if self.found and number == DELAYS else []
+        marks = Panels(self.series).drop_points() if self.series and number == DELAYS else []
         title = f"{panel.title}: over a packet, why" if is_of_packets else panel.title
         return {
             "title": title,
@@ -159,7 +159,7 @@ class HtmlPage:
     def notes(self) -> list[str]:
         """Returns the panels' notes, and the page's omissions, so that nobody counts points."""
         notes = list(dict.fromkeys(note for panel in self.drawing.panels if panel for note in panel.notes))
-        count = int(np.count_nonzero(self.found.replay.event != HELD)) if self.found else 0
+        count = int(np.count_nonzero(self.series.replay.event != HELD)) if self.series else 0
         if count > self.told:
             which = "the fastest and the slowest of a stretch of time, and some between"
             notes.append(f"{self.told:,} of {count:,} packets have a point: {which}")

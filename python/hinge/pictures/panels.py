@@ -64,7 +64,7 @@ class Panels:
     """Creates the panels of a replay."""
 
     def __init__(self, flows_in_time: Series) -> None:
-        self.found = flows_in_time
+        self.series = flows_in_time
         self.step = time_of(flows_in_time.steps.length)
         self.of_bands = Steps(max(flows_in_time.steps.length // BANDS_A_STEP, 1), flows_in_time.steps.span)
         rests = [number for number, flow in enumerate(flows_in_time.flows) if flow.is_rest]
@@ -78,7 +78,7 @@ class Panels:
 
     def flows(self) -> Iterator[tuple[int, Flow, str]]:
         """Yields the flows with numbers and colors, the largest on top and the rest at the bottom."""
-        pairs = list(enumerate(self.found.flows))[::-1]
+        pairs = list(enumerate(self.series.flows))[::-1]
         rests = [(number, flow) for number, flow in pairs if flow.is_rest]
         others = [(number, flow) for number, flow in pairs if not flow.is_rest]
         for number, flow in rests + others:
@@ -86,12 +86,12 @@ class Panels:
 
     def greatest(self, which: str) -> float:
         """Returns the greatest rate, `carried` or `offered`, of a flow or a pipe's flows together."""
-        columns = [getattr(flow, which) for flow in self.found.flows] + list(getattr(self.found, which).values())
+        columns = [getattr(flow, which) for flow in self.series.flows] + list(getattr(self.series, which).values())
         return max((float(column.max(initial=0)) for column in columns), default=0)
 
     def rates(self, which: str, title: str) -> Panel:
         """Returns the panel of the rates, `carried` or `offered`, of each flow and each pipe, with the capacities."""
-        result = self.found
+        result = self.series
         edges = result.steps.edges
         most = self.greatest(which)
         items: list[Item] = []
@@ -119,13 +119,13 @@ class Panels:
         return self.rates("offered", "Offered load")
 
     def band(self, number: int, flow: Flow, color: str) -> Band:
-        result, out = self.found, flow.out_places
+        result, out = self.series, flow.out_places
         low, middle, high = percentiles(result.replay.at[out], result.replay.took[out] / NS_PER_MS, self.of_bands)
         return Band(flow.name, self.of_bands.edges, low, middle, high, color, number)
 
     def delays(self) -> Optional[Panel]:
         """Returns the panel of delays, with a point for each packet, or a band if there are too many."""
-        result = self.found
+        result = self.series
         items = list[Item]()
         has_band = False
         is_crowded = sum(len(flow.out_places) for flow in result.flows) > MOST_DOTS_IN_ALL
@@ -147,12 +147,12 @@ class Panels:
     def bounds(self) -> tuple[list[Item], list[str]]:
         """Returns the proved bound on each pipe's delay: a line, or a note if it is far above the delays."""
         lines, notes = list[Item](), list[str]()
-        for pipe in self.found.bounds:
+        for pipe in self.series.bounds:
             limit = pipe.bound.due_ns / NS_PER_MS
             most = (pipe.delay_ns or 0) / NS_PER_MS
             text = f"bound on the delay of {pipe.name}: {limit:,.6g} ms"
             if limit <= MOST_ABOVE * most:
-                ends = np.array([0, self.found.steps.span]) / NS_PER_S
+                ends = np.array([0, self.series.steps.span]) / NS_PER_S
                 color, _ = self.pipes[pipe.name]
                 lines.append(Line(text, ends, np.array([limit, limit]), color, width=0.9, dash=DASHED, is_behind=True))
             else:
@@ -169,14 +169,14 @@ class Panels:
     def waiting(self) -> Optional[Panel]:
         """Returns the panel with the packets waiting for each pipe or queue, with its limit."""
         items, notes = list[Item](), list[str]()
-        for name, (moments, lengths) in self.found.waiting.items():
+        for name, (moments, lengths) in self.series.waiting.items():
             places = spread(np.arange(len(moments)), MOST_COUNTS)
             most = int(lengths.max(initial=0))
             if not most:
                 continue
             color, _ = self.pipes[name]
             items.append(Line(f"{name}, at most {most:,}", moments[places], lengths[places], color, width=0.8))
-            limit = self.found.limits.get(name)
+            limit = self.series.limits.get(name)
             if limit is None:
                 continue
             if limit.numbers is not None and np.nanmax(limit.numbers) <= MOST_ABOVE * most:
@@ -190,13 +190,13 @@ class Panels:
         return Panel("Packets that wait", "s", "packets", items, notes, is_whole=True) if items else None
 
     def bars(self, name: str, counts: Integers, color: str, flow: Optional[int] = None) -> Bars:
-        steps = self.found.steps
+        steps = self.series.steps
         return Bars(name, steps.begins, steps.length / NS_PER_S, counts, color, flow)
 
     def drops(self) -> Optional[Panel]:
         items: list[Item] = [
             self.bars(f"{cause} {int(counts.sum()):,}", counts, CAUSE_COLORS[cause])
-            for cause, counts in self.found.drops.items()
+            for cause, counts in self.series.drops.items()
             if counts.any()
         ]
         return Panel(f"Drops by cause, packets per {self.step}", "s", "packets", items, is_whole=True) if items else None
@@ -211,7 +211,7 @@ class Panels:
         """Returns the panel with a live host's lateness and unread packets in each second: delays that no link caused."""
         dashes = {"late": SOLID, "unread": DOTTED}
         items = list[Line]()
-        for number, (way, of_way) in enumerate(self.found.lateness.items()):
+        for number, (way, of_way) in enumerate(self.series.lateness.items()):
             for which, (moments, ms) in of_way.items():
                 x, y = np.append(0, moments), np.append(ms, ms[-1:])  # each value is the maximum up to its moment
                 text = f"{way}: {which}, at most {ms.max(initial=0):.3g} ms"
@@ -223,10 +223,10 @@ class Panels:
         """Returns a mark for each dropped packet, at a delay of 0."""
         marks = list[Points]()
         for cause in CAUSES:
-            places = spread(np.flatnonzero(self.found.replay.event == cause), MOST_DROPS_TOLD)
+            places = spread(np.flatnonzero(self.series.replay.event == cause), MOST_DROPS_TOLD)
             if len(places):
                 name = EVENT_NAMES[cause]
-                moments = self.found.sent_at(places)
+                moments = self.series.sent_at(places)
                 zeros = np.zeros(len(places))
                 marks.append(Points(f"dropped: {name}", places, moments, zeros, CAUSE_COLORS[name], is_cross=True))
         return marks

@@ -126,10 +126,10 @@ class Parts:
     def own(self) -> Integers:
         """The place of the spell that decided each row's fate; UNKNOWN if the row's target wasn't configured."""
         packets = self.replay.packets
-        found = np.full(len(packets), UNKNOWN, np.int64)
+        spell_of_row = np.full(len(packets), UNKNOWN, np.int64)
         for target, rows in zip(packets.targets, places_of(packets.target, len(packets.targets))):
-            found[rows] = self.configuration.places(target, self.replay.submitted[rows], RECORD)
-        return found
+            spell_of_row[rows] = self.configuration.places(target, self.replay.submitted[rows], RECORD)
+        return spell_of_row
 
     @cached_property
     def pipe(self) -> Integers:
@@ -141,14 +141,16 @@ class Parts:
         """The place of the pipe's spell at the start of each row's transmission. If the row didn't wait or didn't leave, this is
         the spell at the row's arrival."""
         replay = self.replay
-        found = np.full(len(self.own), UNKNOWN, np.int64)
+        spell_of_row = np.full(len(self.own), UNKNOWN, np.int64)
         for number, rows in enumerate(places_of(self.pipe, int(self.pipe.max(initial=0)) + 1)):
+            if number == 0:
+                continue  # these rows have no pipe
             start = replay.start[rows]
-            if number and len(start):
+            if len(start):
                 on_coming = self.configuration.places(("pipe", number), replay.submitted[rows], RECORD)
                 later = self.configuration.places(("pipe", number), start, MOMENT)
-                found[rows] = np.where(start > replay.at[rows], later, on_coming)
-        return found
+                spell_of_row[rows] = np.where(start > replay.at[rows], later, on_coming)
+        return spell_of_row
 
     @cached_property
     def carried(self) -> Integers:
@@ -172,12 +174,12 @@ class Parts:
         """Returns the transmission times in ns, rounded up; 0 if the bandwidth is unlimited."""
         spells = self.configuration.spells
         length = self.replay.packets.length
-        found = np.zeros(len(length), np.int64)
+        times = np.zeros(len(length), np.int64)
         for spell, rows in zip(spells, places_of(self.carrier + 1, len(spells) + 1)[1:]):
             bandwidth = bandwidth_of(spell.setting) if spell.setting else 0
             if bandwidth:
-                found[rows] = -(length[rows] * -BITS_NS // bandwidth)
-        return found
+                times[rows] = -(length[rows] * -BITS_NS // bandwidth)
+        return times
 
     def delay_and_behind(self, rows: slice) -> tuple[Integers, Integers]:
         """Returns rows' delays, and the ns for which each row stayed behind the previous row on a link with a shortened delay."""
