@@ -64,7 +64,8 @@ def read_addresses(packets: str, used: Callable[[], Container[str]]) -> dict[str
     path = addresses_file(packets)
     if not is_beside(path):
         return {}
-    table, wanted = dict[str, str](), used()
+    table = dict[str, str]()
+    wanted = used()
     with untrusted(path):
         rows = csv.reader(lines_in(path, errors="replace", said=None))
         if next(rows, []) != NAMES:

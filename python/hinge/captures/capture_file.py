@@ -42,7 +42,8 @@ class CaptureFile:
 def read_frames(file: IO[bytes]) -> CaptureFile:
     data = mmap.mmap(file.fileno(), 0, access=mmap.ACCESS_READ)
     *_, link_type = FILE_HEADER.unpack_from(data)
-    records, at = [], FILE_HEADER.size
+    records = []
+    at = FILE_HEADER.size
     while at + RECORD.size <= len(data):
         seconds, ns, part, length = RECORD.unpack_from(data, at)
         at += RECORD.size
@@ -65,7 +66,8 @@ def capture_file(name: str) -> Iterator[CaptureFile]:
             raise Fault(f"{capture.name}: {' '.join(answer.told.split())[:300]}", ROWS)
         with untrusted(capture.name):
             frames = read_frames(plain)
-        if len(frames.records) != (count := frame_count(capture)):
+        count = frame_count(capture)
+        if len(frames.records) != count:
             raise Fault(f"{capture.name}: it has {count:,} frames, and editcap writes {len(frames.records):,}", ROWS)
         yield frames
 

@@ -13,12 +13,15 @@ from hinge.border.programs import asked
 from hinge.border.scratch import unnamed
 from hinge.command import ROWS, Fault
 
-# the fronts of pcapng, and of pcap in us, in ns and of Kuznetzov in each byte order
+# the first bytes of pcapng, and of pcap with us, with ns, and in Kuznetzov's format, in each byte order
 FRONTS = ("0a0d0d0a", "a1b2c3d4", "a1b23c4d", "a1b2cd34", "d4c3b2a1", "4d3cb2a1", "34cdb2a1")
-SECTION, LITTLE, SHORTEST = 0x0A0D0D0A, b"\x4d\x3c\x2b\x1a", 12
-KNOWN = (SECTION, 1, 2, 3, 4, 5, 6, 10)  # and interfaces, packets, names, statistics and secrets
-OF_EDITCAP = range(128)  # the statuses of a refusal
-FRONT, PART = 4, 1 << 16  # bytes of a front, and those that are unpacked at once
+SECTION = 0x0A0D0D0A  # the kind of a pcapng section's header
+LITTLE = b"\x4d\x3c\x2b\x1a"  # the byte order of a section with little-endian numbers
+SHORTEST = 12  # the bytes of the shortest pcapng block
+KNOWN = (SECTION, 1, 2, 3, 4, 5, 6, 10)  # sections, interfaces, packets, names, statistics and secrets
+OF_EDITCAP = range(128)  # editcap's exit statuses, also for a refusal
+FRONT = 4  # the bytes that show a capture's format
+PART = 1 << 16  # the bytes that are unpacked at once
 
 
 def as_pcapng(capture: Input, files: ExitStack) -> IO[bytes]:
@@ -37,7 +40,8 @@ def as_pcapng(capture: Input, files: ExitStack) -> IO[bytes]:
 
 def blocks_of(data: mmap.mmap) -> Iterator[tuple[int, int, int]]:
     """Yields the blocks of a pcapng file: kind, start and end. Invalid data counts as part of the last block."""
-    at, order = 0, "little"
+    at = 0
+    order = "little"
     while at + SHORTEST <= len(data):
         kind = int.from_bytes(data[at : at + 4], order)  # type: ignore[arg-type]
         if kind == SECTION:
@@ -56,7 +60,7 @@ def front_of(file: IO[bytes]) -> bytes:
 
 
 def unpack(name: str, archive: BinaryIO, plain: IO[bytes]) -> bool:
-    """Writes what gzip has compressed; returns whether the archive is whole."""
+    """Writes the content of a gzip archive to `plain`; returns whether the archive is complete."""
     source = Unpacked(name, archive)
     try:
         while part := source.read(PART):
@@ -69,7 +73,8 @@ def unpack(name: str, archive: BinaryIO, plain: IO[bytes]) -> bool:
 def plain_capture(capture: Input, files: ExitStack) -> tuple[IO[bytes], bool]:
     """Opens a capture in any format; returns the file, and whether a compressed capture is complete. Fault: the file is empty."""
     file: IO[bytes] = files.enter_context(opened(capture.path, None))
-    front, is_whole = front_of(file), True
+    front = front_of(file)
+    is_whole = True
     if front[:2] == GZIP:
         archive, (file, _) = file, files.enter_context(unnamed())
         is_whole = unpack(capture.name, cast(BinaryIO, archive), file)

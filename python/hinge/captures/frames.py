@@ -19,15 +19,22 @@ from hinge.program import packets
 
 NAME = "hinge-packets"
 PORTED = {6: "tcp", 17: "udp", 132: "sctp", 136: "udp", 33: "dccp"}
-HEAD, ADDRESS, FLOW, FRAME, COUNTS, MEETING = map(Struct, ("=6Q", "=16sQ", "=IIHHBBxx", "=QqQII", "=7Q", "=3I"))
+# the records of the program's answer
+HEAD = Struct("=6Q")
+ADDRESS = Struct("=16sQ")
+FLOW = Struct("=IIHHBBxx")
+FRAME = Struct("=QqQII")
+COUNTS = Struct("=7Q")
+MEETING = Struct("=3I")
 NOT_VALID = "a block of the capture isn't valid"
-MAPPED = 0xFFFF << 32  # what is above an address of IPv4 in a number of IPv6
+MAPPED = 0xFFFF << 32  # the bits above an IPv4 address in an IPv6 number
 FASTEST = 1 << 62  # bit/s, at which any packet takes 1 ns
-FAULT, SYSTEM = 4, (5, 6)  # the statuses with which it ends in a fault, and where the system refuses something
+FAULT = 4  # the program's exit status for a fault
+SYSTEM = (5, 6)  # the exit statuses if the system refuses a call
 
 
 class Frame(NamedTuple):
-    """The properties of a frame that rules use. A flow's frames differ only in their numbers."""
+    """The properties of a frame that rules look at. The frames of a flow differ only in their numbers."""
 
     number: int
     src: str
@@ -51,7 +58,8 @@ class FrameColumns(NamedTuple):
 
 
 class Packet(NamedTuple):
-    """An IP packet as a whole. `time` is in ns since 1970, `length` that of the IP packet, `headers` of IP and transport."""
+    """An IP packet. `time` is in ns since 1970. `length` is the IP packet's length, and `headers` the length of its IP and
+    transport headers."""
 
     frame: Frame
     time: int
@@ -82,38 +90,48 @@ class RowPlan(NamedTuple):
 
 
 class Capture:
-    """A capture that the program has read, and whose rows it will write. Its flows are in the order in which they begin."""
+    """A capture that the program hinge-packets has read, and whose rows the program will write. Flows are in the order of their
+    first frames."""
 
     def __init__(self, name: str, program: "Process[bytes]", by_frame: bool) -> None:
-        self.name, self.program, self.read = name, program, cast(BinaryIO, program.stdout).read
-        self.frame_count, self.packet_count, self.long, self.is_cut, addresses, flows = HEAD.unpack(
-            self.whole(HEAD.size, f"{name}: ")
-        )
-        self.ends, self.address = self.whole(ADDRESS.size * addresses), cache(self.address_of)
+        self.name = name
+        self.program = program
+        self.read = cast(BinaryIO, program.stdout).read
+        head = HEAD.unpack(self.whole(HEAD.size, f"{name}: "))
+        self.frame_count, self.packet_count, self.long, self.is_cut, addresses, flows = head
+        self.ends = self.whole(ADDRESS.size * addresses)
+        self.address = cache(self.address_of)
         self.flows = self.whole(FLOW.size * flows)
         self.items = self.whole(FRAME.size * self.packet_count) if by_frame else None
 
     def whole(self, size: int, prefix: str = "") -> bytes:
-        """Returns `size` bytes of the program's answer. Fault, or the program's OSError: the program ended before."""
+        """Returns `size` bytes of the program's answer. Fault, or OSError if the system refused a call: the program ended
+        before."""
         data = self.read(size)
         if len(data) < size:
             text = cast(BinaryIO, self.program.stderr).read().decode(errors="replace")
             status = self.program.wait()
             if status in SYSTEM:
                 raise OSError(int(text), os.strerror(int(text)))
-            told = (prefix + text, ROWS) if status == FAULT else (f"{NAME} {how_ended(status)}", FILES)
-            raise Fault(*told)
+            if status == FAULT:
+                raise Fault(prefix + text, ROWS)
+            raise Fault(f"{NAME} {how_ended(status)}", FILES)
         return data
 
     def address_of(self, number: int) -> str:
         address, is_six = ADDRESS.unpack_from(self.ends, number * ADDRESS.size)
-        return socket.inet_ntop(*((socket.AF_INET6, address) if is_six else (socket.AF_INET, address[12:])))
+        if is_six:
+            return socket.inet_ntop(socket.AF_INET6, address)
+        return socket.inet_ntop(socket.AF_INET, address[12:])
 
     @cached_property
     def keys(self) -> list[int]:
         """Returns the addresses as IPv6 numbers, which only rules about hosts need."""
-        both = ADDRESS.iter_unpack(self.ends)
-        return [int.from_bytes(it, "big") if six else MAPPED | int.from_bytes(it[12:], "big") for it, six in both]
+        numbers = list[int]()
+        for address, is_six in ADDRESS.iter_unpack(self.ends):
+            number = int.from_bytes(address if is_six else address[12:], "big")
+            numbers.append(number if is_six else MAPPED | number)
+        return numbers
 
     def frame(self, number: int, flow: int) -> Frame:
         src, dst, sport, dport, proto, dscp = FLOW.unpack_from(self.flows, flow * FLOW.size)
@@ -125,7 +143,7 @@ class Capture:
             yield Packet(self.frame(number & (1 << 48) - 1, flow), (high << 64) + low, length, number >> 48)
 
     def asked(self) -> FrameColumns:
-        """Returns a frame of each flow."""
+        """Returns the properties of one frame for each flow."""
         flows = self.flows
         halves = array("H", self.flows)
         words = array("I", self.flows)
@@ -142,14 +160,16 @@ class Capture:
         originals = array("I", self.whole(4 * counts.stand_ins))
         meetings = MEETING.iter_unpack(self.whole(MEETING.size * counts.meetings))
         hosts = [(target, self.address(first), self.address(second)) for target, first, second in meetings]
-        if status := self.program.wait():
+        status = self.program.wait()
+        if status:
             raise Fault(f"{NAME} {how_ended(status)}", FILES)
         return counts, [*map(self.address, originals)], hosts
 
 
 @contextmanager
 def read_capture(capture: Input, plan: RowPlan, out: int, index: Optional[int] = None, by_frame: bool = False) -> Iterator[Capture]:
-    """Reads a capture; writes its rows to a descriptor, and their frame numbers to another."""
+    """Yields a capture that the program has read. `Capture.write` then writes the rows to descriptor `out`, and the rows' frame
+    numbers to `index`."""
     with ExitStack() as files:
         with untrusted(capture.name, what=NOT_VALID):
             source, is_whole = plain_capture(capture, files)
@@ -158,7 +178,8 @@ def read_capture(capture: Input, plan: RowPlan, out: int, index: Optional[int] =
         copies = [os.dup(number) for number in (source.fileno(), out, index) if number is not None]
         for number in copies:
             files.callback(os.close, number)
-        numbers = [*copies, -1][:3] + [plan.mtu, min(plan.rate, FASTEST), plan.l2, plan.seed, int(by_frame)]
+        descriptors = copies if index is not None else [*copies, -1]
+        numbers = [*descriptors, plan.mtu, min(plan.rate, FASTEST), plan.l2, plan.seed, int(by_frame)]
         words = [packets(), *map(str, numbers)]
         program = files.enter_context(begun(words, stdin=PIPE, stdout=PIPE, stderr=PIPE, pass_fds=copies))
         files.callback(program.kill)

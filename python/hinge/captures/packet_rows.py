@@ -22,7 +22,9 @@ def warnings(meetings: Iterable[tuple[int, str, str]]) -> Iterator[str]:
         of_targets.setdefault(target, []).append((first, second))
     for target, pairs in of_targets.items():
         first, second = min(pairs)
-        others = f" and of {len(pairs) - 1:,} other pairs" if len(pairs) > 1 else ""
+        others = ""
+        if len(pairs) > 1:
+            others = f" and of {len(pairs) - 1:,} other pairs"
         yield (
             f"both directions of {first} and {second}{others} go to {direction_name(target)}, where they wait for each other; "
             f"--from {first} gives each direction a pipe"
@@ -30,18 +32,22 @@ def warnings(meetings: Iterable[tuple[int, str, str]]) -> Iterator[str]:
 
 
 class ModelWords:
-    """Packet rows with words from models instead of random words."""
+    """Writes packet rows whose words, the numbers that decide about losses, come from models and aren't random."""
 
     def __init__(self, seed: int, models: dict[str, Maker]) -> None:
         """`models` contains the models for targets such as `pipe,1`; an empty name stands for all other targets."""
-        self.seed, self.models = seed, models
+        self.seed = seed
+        self.models = models
         self.words: dict[str, Optional[Words]] = {}
 
     def of(self, target: str) -> Optional[Words]:
-        """Returns the words for a target's packets, each from its model, or None if they are random."""
+        """Returns the words from a target's model, or None if the target's words are random."""
         if target not in self.words:
             make = self.models.get(target) or self.models.get("")
-            self.words[target] = make(self.seed, direction_of(*target.split(","))) if make else None
+            self.words[target] = None
+            if make:
+                kind, number = target.split(",")
+                self.words[target] = make(self.seed, direction_of(kind, number))
         return self.words[target]
 
     def write(self, rows: IO[bytes], out: TextIO) -> int:
@@ -52,7 +58,8 @@ class ModelWords:
         for line in rows:
             row, _, word = line.decode("ascii").rpartition(",")
             words = self.of(",".join(row.split(",", 3)[1:3]))
-            size += out.write(f"{row},{words.next()}\n" if words else f"{row},{word}")
+            new_line = f"{row},{words.next()}\n" if words else f"{row},{word}"
+            size += out.write(new_line)
         return size
 
 
@@ -81,11 +88,11 @@ def write_rows(
     capture: Input, targets: Targets, plan: RowPlan, models: dict[str, Maker], out: TextIO, index: Optional[TextIO]
 ) -> Product:
     """Writes a row for each packet with a target, and its frame in the index. Returns the summary's content."""
-    numbers = None if index is None else index.fileno()
+    index_number = None if index is None else index.fileno()
     out.flush()
     if not models:
-        return write_random(capture, targets, plan, out.fileno(), numbers)
+        return write_random(capture, targets, plan, out.fileno(), index_number)
     with unnamed() as (rows, _):
-        product = write_random(capture, targets, plan, rows.fileno(), numbers)
+        product = write_random(capture, targets, plan, rows.fileno(), index_number)
         size = ModelWords(plan.seed, models).write(rows, out)
     return product._replace(counts=product.counts._replace(bytes=size))

@@ -8,12 +8,12 @@ from __future__ import annotations
 from typing import Union
 
 MASK = (1 << 64) - 1  # of 64-bit arithmetic
-QUEUES = 1 << 16  # behind the directions of pipes
+QUEUES = 1 << 16  # a queue's direction is its number and this; a pipe's direction is its number
 
 
 def direction_of(kind: str, number: Union[int, str]) -> int:
     """Returns the direction of a pipe or queue."""
-    return int(number) + QUEUES * (kind == "queue")
+    return int(number) + (QUEUES if kind == "queue" else 0)
 
 
 def direction_name(direction: int) -> str:
@@ -22,7 +22,7 @@ def direction_name(direction: int) -> str:
 
 
 def word(seed: int, number: int, way: int = 1) -> int:
-    """Returns a packet's word from its number in its direction, 0 to 2^31 - 1."""
+    """Returns the word, from 0 to 2^31 - 1, for the packet with this number in a direction; `way` is that direction."""
     z = (seed * 0x9E3779B97F4A7C15 + number * 0xD1B54A32D192ED03 + (way - 1) * 0x8CB92BA72F3D8DD7) & MASK
     z = ((z ^ z >> 30) * 0xBF58476D1CE4E5B9) & MASK
     z = ((z ^ z >> 27) * 0x94D049BB133111EB) & MASK

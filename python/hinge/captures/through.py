@@ -18,8 +18,8 @@ SECTION, INTERFACE, PACKET = 0x0A0D0D0A, 1, 6
 BYTE_ORDER, UNKNOWN_LENGTH = 0x1A2B3C4D, -1
 END, COMMENT, TIME_RESOLUTION = 0, 1, 9
 NANOSECONDS = b"\x09"
-MOST_BYTES = 65_000  # of a comment, whose length has 16 bits
-MOST_COMMENTS = 3  # of a frame that was split into more packets
+MOST_BYTES = 65_000  # the longest comment, since a comment's length has 16 bits
+MOST_COMMENTS = 3  # the most comments on a frame, which may have been split into more packets
 
 
 def frames_of_rows(path: str, replay: Replay) -> Integers:
@@ -48,7 +48,7 @@ def arrivals(replay: Replay, frames: Integers) -> list[tuple[int, int]]:
 
 
 def refuse_other(capture: CaptureFile, frames: Integers) -> None:
-    """Fault: the index has a frame that the capture hasn't."""
+    """Refuses the index of another capture. Fault: the index contains a frame that the capture lacks."""
     if len(frames) and frames.max() > len(capture.records):
         raise Fault(f"the index has frame {frames.max()}, and the capture {len(capture.records)} frames", ROWS)
 
@@ -95,20 +95,24 @@ def write_commented(capture: CaptureFile, frames: Integers, tell: Callable[[int]
     write_head(out, capture.link_type)
     for number, record in enumerate(capture.records, 1):
         data = capture.data[record.begin : record.end]
-        comments = b"".join(comment(tell(row)) for row in rows.get(number, [])[:MOST_COMMENTS])
+        options = b"".join(comment(tell(row)) for row in rows.get(number, [])[:MOST_COMMENTS])
+        if options:
+            options += option(END, b"")
         head = struct.pack("<IIIII", 0, record.time >> 32, record.time & 0xFFFFFFFF, len(data), record.length)
-        out.write(block(PACKET, head + data + bytes(-len(data) % 4) + (comments + option(END, b"") if comments else b"")))
+        out.write(block(PACKET, head + data + bytes(-len(data) % 4) + options))
     return len(rows)
 
 
 def write_through(source: Source, capture_name: str, index: str, path: str) -> str:
-    """Writes the frames that arrive, at the moments at which they do, or all frames with a comment each; says how many."""
+    """Writes the frames that arrive, at their moments of arrival, or all frames with comments; returns a sentence that counts
+    them."""
     frames = frames_of_rows(index, source.replay)
     explainer = Explainer(source.explained()) if format_of(path) is Format.COMMENTED else None
     with capture_file(capture_name) as capture:
         refuse_other(capture, frames)
         if explainer is None:
-            return f"{len(capture.records)} frames, of which {write_arrivals(capture, source.replay, frames, path)} arrive"
+            count = write_arrivals(capture, source.replay, frames, path)
+            return f"{len(capture.records)} frames, of which {count} arrive"
         with written(path) as place, working("commenting"), open(place, "wb") as out:
             comments = write_commented(capture, frames, explainer.paragraph, out)
         return f"{len(capture.records)} frames, of which {comments} have a comment"

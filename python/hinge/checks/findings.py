@@ -6,7 +6,7 @@ from dataclasses import dataclass
 
 from hinge.border.terminal import printable, show
 
-MOST_FAULTS = 20  # of one file that are told
+MOST_FAULTS = 20  # the faults of one file that are reported
 
 
 @dataclass

@@ -11,19 +11,20 @@ from hinge.checks.findings import Findings
 from hinge.command import ROWS
 from hinge.program import asked_of_dummynet
 
-DIFFERS = 1  # the status of an audit that finds another reply
-SHOWN = 80  # letters of a record
+DIFFERS = 1  # the exit status of an audit that finds another reply
+SHOWN = 80  # the letters of a record that messages show
 
 
 class HistoryRecords:
     """The records of a history with their lines. Empty lines and the remarks of a transcript don't count."""
 
     def __init__(self, data: bytes) -> None:
-        self.data, self.is_live = data, data.startswith(b"dummynet-live,")
+        self.data = data
+        self.is_live = data.startswith(b"dummynet-live,")
         self.is_whole = data.endswith((b"\n", b"\r"))
 
     def __iter__(self) -> Iterator[tuple[int, str]]:
-        """Reads the records anew each time, so that they need no memory."""
+        """Yields each record with its line's number. Reads the records anew each time, so that they need no memory."""
         for number, line in enumerate(io.TextIOWrapper(io.BytesIO(self.data), "utf-8", "replace"), 1):
             if line != "\n" and not (self.is_live and line.startswith("#")):
                 yield number, line.removesuffix("\n")
@@ -42,12 +43,14 @@ class HistoryRecords:
 
 def bad_record(name: str, records: HistoryRecords, number: int) -> tuple[str, str]:
     """Returns the place of a record that the audit refuses, and the reason."""
-    before, line, text, last = "", 0, "", 1
-    for place, (last, other) in enumerate(records, 1):
+    before = ""  # the record before
+    line, text = 0, ""  # the record itself
+    last = 1  # the last record's line
+    for place, (last, record) in enumerate(records, 1):
         if place < number:
-            before = other
+            before = record
         elif place == number:
-            line, text = last, other
+            line, text = last, record
     if not line:
         return f"{name}:{last}", "the history was cut: behind this record it has no `end`; the session was killed, or still goes on"
     why = ": not a record here; the file was edited"
@@ -69,16 +72,21 @@ def other_reply(name: str, records: HistoryRecords, entry: int) -> tuple[str, st
     right = records.right_reply(entry + 1)
     text = f"{reply[:SHOWN]!r} isn't the emulator's reply to {call[:SHOWN]!r} (entry {entry})"
     if right == reply:
-        return f"{name}:{line}", f"{text}: an item below it differs"
-    return f"{name}:{line}", f"{text}; that is {right!r}" if right else text
+        text = f"{text}: an item below it differs"
+    elif right:
+        text = f"{text}; that is {right!r}"
+    return f"{name}:{line}", text
 
 
 def check_history(name: str, path: str, data: bytes, findings: Findings) -> None:
+    """Reports the first fault that the program's audit finds in a history, with its place and reason."""
     audit = asked_of_dummynet("audit", path)
-    records, fault = HistoryRecords(data), audit.told
-    if bad := re.fullmatch(r"history record (\d+): bad", fault):
+    records = HistoryRecords(data)
+    bad = re.fullmatch(r"history record (\d+): bad", audit.told)
+    differs = re.fullmatch(r"differs (\d+)", audit.text.strip())
+    if bad:
         findings.fault(*bad_record(name, records, int(bad[1])), ROWS)
-    elif differs := re.fullmatch(r"differs (\d+)", audit.text.strip()):
+    elif differs:
         findings.fault(*other_reply(name, records, int(differs[1])), DIFFERS)
     elif audit.status:
-        findings.fault(name, fault, audit.status)
+        findings.fault(name, audit.told, audit.status)

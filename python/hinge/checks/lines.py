@@ -21,9 +21,9 @@ from hinge.command import CONFIGURATION, FILES, MISSING, Fault
 from hinge.configurations.configured import InForce
 from hinge.program import VERDICTS, dummynet
 
-MOST_LINE_BYTES = 65_000  # of a line that a live session takes
+MOST_LINE_BYTES = 65_000  # the longest line that a live session accepts
 LONG_DELAY_MS = 10_000
-MOST_CORRECTIONS = 8  # of one line
+MOST_CORRECTIONS = 8  # the most words that are replaced in one line
 
 
 class Verdict(NamedTuple):
@@ -37,7 +37,7 @@ class Verdict(NamedTuple):
 
 
 def judged_part(line: Union[bytes, str]) -> bytes:
-    """Returns the part of a line that a live session accepts; in a file the comment may be longer. Exceeded: a command is."""
+    """Returns the part of a line that a live session accepts. Only a comment may be longer. Exceeded: the command is longer."""
     text = os.fsencode(line)
     text = re.sub(rb" +", b" ", text) if b"  " in text else text
     if len(text) > MOST_LINE_BYTES and b"#" not in text[:MOST_LINE_BYTES]:
@@ -46,14 +46,15 @@ def judged_part(line: Union[bytes, str]) -> bytes:
 
 
 def refuse_long(places: Iterable[str], lines: Iterable[str]) -> None:
-    """Fault: a line is too long for a live session; the message begins with its place."""
+    """Refuses lines that are too long for a live session. Fault: a line is too long; the message begins with the line's place."""
     for place, line in zip(places, lines):
         with untrusted(place, CONFIGURATION):
             judged_part(line)
 
 
 def session_of(lines: Iterable[Union[bytes, str]]) -> Iterator[str]:
-    """Yields the program's replies to lines in a single session, in which earlier lines affect later ones."""
+    """Yields the calls, replies and errors with which the program answers lines in a single session, in which earlier lines affect
+    later ones."""
     with unnamed() as (inputs, _):
         inputs.writelines(b" " + judged_part(line) + b"\n" for line in lines)  # with a blank before it no line is a call
         inputs.seek(0)
@@ -63,7 +64,8 @@ def session_of(lines: Iterable[Union[bytes, str]]) -> Iterator[str]:
 
 
 def judged_lines(lines: Iterable[Union[bytes, str]]) -> Iterator[Verdict]:
-    """Yields the verdict of each line with a command, on demand; the lines are read twice. Fault: the program's verdict is missing."""
+    """Yields the verdict on each line with a command, on demand. Reads the lines twice. Fault: the program gave no verdict on a
+    line."""
     records = session_of(lines)
     record = next(records, "")
     for number, line in enumerate(map(judged_part, lines), 1):
@@ -74,7 +76,8 @@ def judged_lines(lines: Iterable[Union[bytes, str]]) -> Iterator[Verdict]:
             if record[:2] != "c," or answer[:2] != "r,":
                 raise Fault(f"dummynet live says nothing of line {number}", FILES)
             reply = answer.split(",")[1]
-            yield Verdict(number, "ok" if reply in ("configured", "deleted") else reply, record.split(",", 3)[3], line)
+            name = "ok" if reply in ("configured", "deleted") else reply
+            yield Verdict(number, name, record.split(",", 3)[3], line)
         else:
             continue
         record = next(records, "")
@@ -94,8 +97,8 @@ def corrected(line: str) -> Optional[str]:
 
 
 def refuse_wrong(texts: Sequence[str], numbers: Sequence[int], file: str, option: str = "") -> None:
-    """Fault: a line is no command; the message says the right words. `numbers` are line numbers in the file, or 0 for lines from the
-    option. Without the program the host refuses such a line later."""
+    """Refuses lines that aren't commands. `numbers` contains line numbers in the file, or 0 for lines from the option. If the
+    program is missing, the host refuses such a line later. Fault: a line is no command; the message says the right words."""
 
     def wrong(at: int, why: str) -> Fault:
         return Fault(f"{place(at)}: {why}", CONFIGURATION)
@@ -106,18 +109,21 @@ def refuse_wrong(texts: Sequence[str], numbers: Sequence[int], file: str, option
     first = ""
     refuse_long(map(place, range(len(texts))), texts)
     try:
-        # the whole answer, as a program that was ended says nothing of the lines
+        # All records are read first: if the program was killed, its records say nothing about the lines.
         for record in session_of(texts) if texts else ():
-            first = first or record * (record[0] == "#")
+            if not first and record.startswith("#"):
+                first = record
     except Fault as fault:
         if fault.status != MISSING:
             raise
         return
     if first:
         _, _, number, _, why = first.split(",", 4)
-        raise wrong(int(number) - 1, LineCheck.wrong(words_before_comment(texts[int(number) - 1]), why))
+        at = int(number) - 1
+        raise wrong(at, LineCheck.wrong(words_before_comment(texts[at]), why))
     for at, text in enumerate(texts):
-        if name := twice(words_before_comment(text)):
+        name = twice(words_before_comment(text))
+        if name:
             raise wrong(at, f"{name} stands twice; write one of them")
 
 
@@ -135,8 +141,8 @@ class LineCheck:
     lines: Iterable[bytes]
     found: Findings
     in_force: InForce = field(default_factory=InForce)
-    spoilt: dict[str, int] = field(default_factory=dict)  # the line of each pipe and queue that has a fault
-    # the line of each that has none, and its words
+    spoilt: dict[str, int] = field(default_factory=dict)  # the last wrong line of each pipe and queue
+    # the last correct line of each pipe and queue, and the line's words
     last: dict[str, tuple[int, list[str]]] = field(default_factory=dict)
 
     def check(self) -> None:
@@ -145,12 +151,13 @@ class LineCheck:
             if self.found.faults - before == MOST_FAULTS:
                 self.found.warn(f"{self.name}:{verdict.line}", f"{MOST_FAULTS} faults; the lines from here on weren't looked at")
                 return
-            self.one(verdict)
+            self.add(verdict)
 
-    def one(self, verdict: Verdict) -> None:
+    def add(self, verdict: Verdict) -> None:
+        """Reports the fault or the warnings for a line; obeys a correct line."""
         where = f"{self.name}:{verdict.line}"
         words = words_before_comment(verdict.source.decode("utf-8", "replace"))
-        own = words[words[:1] == ["ipfw"] :]
+        own = words[1:] if words[:1] == ["ipfw"] else words
         if verdict.name == "bad":
             self.found.fault(where, self.wrong(words, verdict.text), CONFIGURATION)
             self.spoilt[" ".join(own[:2])] = verdict.line
@@ -167,7 +174,8 @@ class LineCheck:
         """Returns the error and the advice for a line, from the program's text `word W: X`."""
         line = " ".join(words)
         whole = corrected(line)
-        return explained(line, text) + (f"; in full: {whole}" if whole is not None and whole != line else "")
+        advice = explained(line, text)
+        return advice if whole in (None, line) else f"{advice}; in full: {whole}"
 
     def refused(self, verdict: Verdict) -> str:
         """Returns why a well-written command has no effect."""
@@ -176,7 +184,8 @@ class LineCheck:
             return f"a queue still names pipe {words[-1]}; delete the queue first, or move it"
         if verdict.name != "no-such-pipe":
             return f"no such queue: queue {words[-1]} isn't configured here; leave this line out"
-        pipe = f"pipe {words[4] if words[1] != 'delete' and len(words) > 4 else words[-1]}"
+        names_pipe = words[1] != "delete" and len(words) > 4
+        pipe = f"pipe {words[4] if names_pipe else words[-1]}"
         if pipe in self.spoilt:
             return f"no such pipe: {pipe} isn't configured here (line {self.spoilt[pipe]}, which is of it, has a fault)"
         return f"no such pipe: {pipe} isn't configured here; a pipe's line stands above those of its queues"
@@ -187,14 +196,19 @@ class LineCheck:
         if key in self.last and "config" in words[:3] and "config" in self.last[key][1][:3]:
             line, earlier = self.last[key]
             losses = [word for word in earlier[3:] if word in OPTIONS_OF[words[0]] and word not in words[3:]]
-            also = f": {', '.join(losses)} of line {line} no longer hold{'s' if len(losses) == 1 else ''}" if losses else ""
+            also = ""
+            if losses:
+                verb = "holds" if len(losses) == 1 else "hold"
+                also = f": {', '.join(losses)} of line {line} no longer {verb}"
             self.found.warn(where, f"a second line for {key}, and each line is its whole configuration{also}")
-        if option := twice(words):
+        option = twice(words)
+        if option:
             self.found.warn(where, f"{option} stands twice; the last one counts")
 
     def warn_of_words(self, where: str, words: list[str]) -> None:
         for name, word in zip(words[3:], words[4:]):
-            if (message := unlikely(name, word)) is not None:
+            message = unlikely(name, word)
+            if message is not None:
                 self.found.warn(where, message)
 
 
@@ -202,10 +216,12 @@ def unlikely(name: str, word: str) -> str | None:
     """Returns a warning for a legal but unlikely value."""
     if name == "bw" and re.fullmatch(r"[1-9]\d{0,3}", word):
         return f"bw {word} is {word} bit/s; write {word}Mbit/s or {word}Kbit/s if that is meant"
-    if name == "plr" and Fraction(word + ("0" if word.endswith(".") else "")) == 1:
-        return f"plr {word} loses every packet; 1 % is 0.01"
-    if name == "delay" and (ms := int(re.sub(r"\D", "", word) or 0)) > LONG_DELAY_MS:
-        return f"delay {word} is {ms / 1000:g} s; delays are in ms"
+    if name == "plr":
+        rate = f"{word}0" if word.endswith(".") else word  # `1.` isn't a number for Fraction
+        return f"plr {word} loses every packet; 1 % is 0.01" if Fraction(rate) == 1 else None
+    if name == "delay":
+        ms = int(re.sub(r"\D", "", word) or 0)
+        return f"delay {word} is {ms / 1000:g} s; delays are in ms" if ms > LONG_DELAY_MS else None
     if name in FIELD_BITS and is_number(word) and int(word) & (int(word) + 1):
         whole = hex((1 << FIELD_BITS[name]) - 1)
         return f"mask {name} {word} keeps the bits {int(word):#x}, and is neither a prefix length nor a value; all bits are {whole}"

@@ -11,13 +11,15 @@ from hinge.border.files import object_of
 from hinge.command import ROWS, Fault
 
 EXAMPLE = '{"client": 1, "key": "x", "op": "write", "value": 5, "begin": 0.25, "end": 0.31}'
-SHOWN = 80  # letters of a value
-NEVER, ALWAYS = math.inf, -math.inf
-LATEST = 2.0**63  # also in ns
-NULL, TRUE = "null", "true"  # of JSON: the register before its first write, an empty queue; a `cas` that took place
-text_of = json.JSONEncoder(sort_keys=True).encode  # of values, whose names have no order
-Places = dict[str, list[int]]  # bits of the open operations that change something, by their values
-UNSEEN = ""  # in a queue: a value that nobody got, of which one is like the other
+SHOWN = 80  # the letters of a value that messages show
+NEVER = math.inf
+ALWAYS = -math.inf
+LATEST = 2.0**63  # the greatest moment, which is also possible in ns
+NULL = "null"  # in JSON: a register before its first write, or an empty queue
+TRUE = "true"  # in JSON: the result of a `cas` that took place
+text_of = json.JSONEncoder(sort_keys=True).encode  # the JSON text of a value; the order of names doesn't matter
+Places = dict[str, list[int]]  # the bits of the open operations that change something, by the operations' values
+UNSEEN = ""  # any value in a queue or list that no result shows; such values are all alike
 
 
 @dataclass(frozen=True)
@@ -31,7 +33,7 @@ class Operation:
     words: dict[str, str]
     begin: float
     end: float = NEVER
-    values: tuple[str, ...] = ()  # that a read showed
+    values: tuple[str, ...] = ()  # the values that a read showed
 
     @property
     def is_over(self) -> bool:
@@ -46,29 +48,34 @@ class Operation:
         return self.words.get("result", "")
 
     def anywhen(self) -> Operation:
+        """Returns the operation without a result, and without limits on its moment."""
         words = {name: text for name, text in self.words.items() if name != "result"}
         return replace(self, words=words, begin=ALWAYS, end=NEVER, values=())
 
     def told(self) -> str:
         """Returns the operation as text."""
-        words = "".join(f" {name} {text[:SHOWN]}" + (" .." if len(text) > SHOWN else "") for name, text in self.words.items())
-        return f"client {self.client}: {self.op}{words}, from {self.begin}" + (
-            f" to {self.end}" if self.is_over else ", never returned"
-        )
+        words = [self.op]
+        for name, text in self.words.items():
+            words += [name, text[:SHOWN]]
+            if len(text) > SHOWN:
+                words.append("..")
+        end = f" to {self.end}" if self.is_over else ", never returned"
+        return f"client {self.client}: {' '.join(words)}, from {self.begin}{end}"
 
 
 class Model:
-    """A register, with `null` before its first write. Other models differ in the words below and in `after`."""
+    """Describes a register, which contains `null` before the first write. Other models override the fields below and `after`."""
 
     words: dict[str, tuple[str, ...]] = {"write": ("value",), "read": ("result",)}
     makers: tuple[str, ...] = ("write",)  # operations after which the value is there
     asks: tuple[str, ...] = ()  # operations whose result is true or false
-    start: Hashable = NULL
-    shows_lists, shows_twice = False, True  # whether a read lists values, and may list one twice
+    start: Hashable = NULL  # the state before the first operation
+    shows_lists: bool = False  # whether a read lists values
+    shows_twice: bool = True  # whether a read may list a value twice
 
     def __init__(self, operations: list[Operation]) -> None:
-        self.sights = dict[str, float]()  # values that results show, each with the end of the first that does
-        values = [one.value for one in operations if one.op in self.makers and not self.is_pure(one)]
+        self.sights = dict[str, float]()  # the values that results show, each with the end of the first result that shows it
+        values = [operation.value for operation in operations if operation.op in self.makers and not self.is_pure(operation)]
         self.is_unique = len({NULL, *values}) > len(values)  # whether each value is made once
         for operation in operations:
             for text in self.shown(operation) if operation.is_over else ():
@@ -76,14 +83,14 @@ class Model:
         self.operations = [settled for operation in operations for settled in self.settled(operation)]
 
     def settled(self, operation: Operation) -> Iterator[Operation]:
-        """Decides the moment of an operation without an end. If no other operation wrote its value, the operation took effect
-        before the first result with that value; if no result contains the value, no order needs the operation."""
+        """Yields the operation, unless no order needs it. An operation without an end ends with the first result that contains its
+        value, if no other operation wrote that value; if no result contains the value, no order needs the operation."""
         if operation.is_over:
             yield operation
         elif operation.op not in self.makers or not self.is_unique:
             if not self.is_pure(operation):
                 yield operation
-        elif operation.begin <= self.sights.get(operation.value, ALWAYS) > ALWAYS:
+        elif operation.value in self.sights and operation.begin <= self.sights[operation.value]:
             yield replace(operation, end=self.sights[operation.value])
         elif self.keeps_unseen():
             yield operation
@@ -99,9 +106,10 @@ class Model:
         return operation.op == "read"
 
     def useful(self, state: Any, pure: list[Operation], places: Places) -> Iterator[int]:
-        """Yields the places of open operations that the ending operation may need; `pure` lists operations waiting for a state."""
-        for some in places.values():
-            yield from some
+        """Yields the bits of open operations that may precede the ending operation; `pure` lists operations that wait for a
+        state."""
+        for bits in places.values():
+            yield from bits
 
     def after(self, operation: Operation, state: Any) -> Optional[Hashable]:
         """Returns the state after an operation, or None if its result is impossible here."""
@@ -118,12 +126,12 @@ class Exchange(Model):
     asks = ("cas",)
 
     def __init__(self, operations: list[Operation]) -> None:
-        self.asks_more = any(one.op == "cas" and one.result != TRUE for one in operations)
+        self.asks_more = any(operation.op == "cas" and operation.result != TRUE for operation in operations)
         super().__init__(operations)
 
     def keeps_unseen(self) -> bool:
-        """Returns whether values that no result shows may matter: a `cas` without a write, or with an unknown outcome, may need
-        one."""
+        """Returns whether values that no result shows may matter: a `cas` that didn't write, or whose outcome is unknown, may need
+        such a value."""
         return self.asks_more
 
     def shown(self, operation: Operation) -> Iterator[str]:
@@ -148,19 +156,22 @@ class Members(Model):
     words = {"add": ("value",), "read": ("result",)}
     makers = ("add",)
     start = 0
-    shows_lists, shows_twice = True, False
+    shows_lists = True
+    shows_twice = False
 
     def __init__(self, operations: list[Operation]) -> None:
         self.bits = dict[str, int]()
         super().__init__(operations)
-        self.read = {one.line: sum(map(self.bit, self.shown(one))) for one in operations if one.result}
+        self.read = {  # the state that each read shows, by the read's line
+            operation.line: sum(map(self.bit, self.shown(operation))) for operation in operations if operation.result
+        }
         self.names = {bit: text for text, bit in self.bits.items()}
 
     def bit(self, text: str) -> int:
         return self.bits.setdefault(text, 1 << len(self.bits))
 
     def useful(self, state: Any, pure: list[Operation], places: Places) -> Iterator[int]:
-        """Yields the operations that an open read needs, ordered by value, since adds commute."""
+        """Yields the adds of the first value that an open read needs. The order of values is fixed, since adds commute."""
         for read in pure:
             missing = self.read[read.line] & ~state
             if missing and not state & ~self.read[read.line]:
@@ -188,7 +199,8 @@ class Queue(Model):
 
     def after(self, operation: Operation, state: Any) -> Optional[Hashable]:
         if operation.op == "put":
-            return (*state, operation.value if operation.value in self.sights else UNSEEN)
+            value = operation.value if operation.value in self.sights else UNSEEN
+            return (*state, value)
         if self.is_pure(operation):
             return state if not state else None
         return state[1:] if state and operation.result in ("", state[0]) else None
@@ -203,11 +215,11 @@ class Sequence(Model):
     shows_lists = True
 
     def __init__(self, operations: list[Operation]) -> None:
-        self.longest: tuple[str, ...] = max((one.values for one in operations), key=len, default=())
+        self.longest: tuple[str, ...] = max((operation.values for operation in operations), key=len, default=())
         super().__init__(operations)
 
     def after(self, operation: Operation, state: Any) -> Optional[Hashable]:
-        """An append has to make the longest list in a read, or follows the read."""
+        """Returns the state after an operation, or None. An append continues the longest list in a read, or follows that list."""
         if operation.op == "read":
             return state if operation.values == state else None
         value = operation.value if operation.value in self.sights else UNSEEN
@@ -220,7 +232,7 @@ class Lock(Model):
     words = {"acquire": ("result",), "release": ()}
     makers = ()
     asks = ("acquire",)
-    start = ()  # else the holder
+    start = ()  # nobody; the state while the lock is held is the holder alone
 
     def is_pure(self, operation: Operation) -> bool:
         return operation.op == "acquire" and operation.result not in ("", TRUE)
@@ -228,15 +240,16 @@ class Lock(Model):
     def after(self, operation: Operation, state: Any) -> Optional[Hashable]:
         if self.is_pure(operation):
             return state or None
-        before, later = ((), (operation.client,)) if operation.op == "acquire" else ((operation.client,), ())
-        return later if state == before else None
+        if operation.op == "acquire":
+            return (operation.client,) if state == () else None
+        return () if state == (operation.client,) else None
 
 
 MODELS = {"register": Model, "cas": Exchange, "set": Members, "queue": Queue, "list": Sequence, "lock": Lock}
 
 
 def operation_of(line: int, text: bytes, model: type[Model]) -> Optional[tuple[str, Operation]]:
-    """Returns a line's key and operation, or None if it didn't happen. ValueError: the line is wrong."""
+    """Returns a line's key and operation, or None if the line says that it didn't happen. ValueError: the line is wrong."""
     row = object_of(text)
     if row is None:
         raise ValueError(f"not an object of JSON; write {EXAMPLE}")

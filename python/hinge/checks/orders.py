@@ -4,6 +4,7 @@ Lowe's cache, keeping only operations open at the same moment."""
 from __future__ import annotations
 
 import sys
+from collections import deque
 from typing import Hashable, Iterator, Optional
 
 from hinge.border.terminal import printable, several, show, tell
@@ -18,17 +19,21 @@ Configuration = tuple[int, Hashable]  # bits of the open operations that took ef
 
 
 class TooMany(Exception):
-    """There are more orders than can be looked at."""
+    """Raised if there are more orders than the search can look at."""
 
 
 class Search:
-    """The configurations that the operations so far allow, from moment to moment."""
+    """Holds the configurations that the operations so far allow, and moves on from moment to moment. A configuration says which
+    open operations took effect, and the state after them."""
 
     def __init__(self, model: Model, most: int) -> None:
-        self.model, self.most = model, most
-        self.begun, self.pure = dict[int, Operation](), dict[int, Operation]()  # those that change something, and that don't
+        self.model = model
+        self.most = most
+        self.begun = dict[int, Operation]()  # the open operations that change something, by their bits
+        self.pure = dict[int, Operation]()  # the open operations that change nothing, by their bits
         self.places: Places = {}
-        self.spare, self.loose = list[int](), 0  # bits of what is over, and of what never will be
+        self.spare = list[int]()  # the bits of operations that are over, which later operations get
+        self.loose = 0  # the bits of operations that never end
         self.frontier: list[Configuration] = [(0, model.start)]
 
     def begin(self, operation: Operation) -> int:
@@ -38,7 +43,8 @@ class Search:
         else:
             self.begun[bit] = operation
             self.places.setdefault(operation.value, []).append(bit)
-        self.loose |= 0 if operation.is_over else bit
+        if not operation.is_over:
+            self.loose |= bit
         return bit
 
     def end(self, bit: int) -> bool:
@@ -53,16 +59,20 @@ class Search:
         return bool(self.frontier)
 
     def with_pure(self, mask: int, state: Hashable) -> int:
-        """Together with the operations that change nothing and fit, since to place them now leaves all other ways open."""
-        fit = (bit for bit, one in self.pure.items() if not mask & bit and self.model.after(one, state) is not None)
-        return mask | sum(fit)
+        """Returns the mask with the bits of all operations that change nothing and fit the state. To place them now excludes no
+        order."""
+        waiting = ((bit, operation) for bit, operation in self.pure.items() if not mask & bit)
+        return mask | sum(bit for bit, operation in waiting if self.model.after(operation, state) is not None)
 
     def reached(self, goal: int) -> Iterator[Configuration]:
-        """Yields configurations with the goal, and earlier ones that may matter. For equal states, those that used more optional
-        operations are dropped. TooMany: there are too many configurations."""
+        """Yields the configurations in which the operation with the bit `goal` took effect. If two configurations are equal up to
+        operations that may never take effect, and one used a subset of the other's, only that one counts. TooMany: there are too
+        many."""
         used = dict[Configuration, list[int]]()
-        configurations = list(self.frontier)
-        for mask, state in configurations:
+        pending = deque(self.frontier)
+        count = len(pending)
+        while pending:
+            mask, state = pending.popleft()
             mask = self.with_pure(mask, state)
             others = used.setdefault((mask & ~self.loose, state), [])
             if any(other & mask == other for other in others):
@@ -71,12 +81,20 @@ class Search:
             if mask & goal:
                 yield mask, state
                 continue
-            if len(configurations) > self.most:
+            if count > self.most:
                 raise TooMany
-            waiting = [one for bit, one in self.pure.items() if not mask & bit]
-            useful = set(self.model.useful(state, waiting, self.places)) | {goal} & self.begun.keys()
-            steps = ((bit, self.model.after(self.begun[bit], state)) for bit in sorted(useful) if not mask & bit)
-            configurations += [(mask | bit, after) for bit, after in steps if after is not None]
+            successors = self.successors(goal, mask, state)
+            pending += successors
+            count += len(successors)
+
+    def successors(self, goal: int, mask: int, state: Hashable) -> list[Configuration]:
+        """Returns the configurations after one more operation: the goal, or an operation that may have to precede the goal."""
+        waiting = [operation for bit, operation in self.pure.items() if not mask & bit]
+        useful = set(self.model.useful(state, waiting, self.places))
+        if goal in self.begun:
+            useful.add(goal)
+        steps = ((bit, self.model.after(self.begun[bit], state)) for bit in sorted(useful) if not mask & bit)
+        return [(mask | bit, after) for bit, after in steps if after is not None]
 
 
 def first_impossible(operations: list[Operation], kind: type[Model], most: int = MOST) -> Optional[Operation]:
@@ -86,9 +104,10 @@ def first_impossible(operations: list[Operation], kind: type[Model], most: int =
         decides, breach = first_breach(model.operations)
         if decides:
             return breach
-    moments = [(one.begin, False, place) for place, one in enumerate(model.operations)]
-    moments += [(one.end, True, place) for place, one in enumerate(model.operations) if one.is_over]
-    search, bits = Search(model, most), dict[int, int]()
+    moments = [(operation.begin, False, place) for place, operation in enumerate(model.operations)]
+    moments += [(operation.end, True, place) for place, operation in enumerate(model.operations) if operation.is_over]
+    search = Search(model, most)
+    bits = dict[int, int]()  # of the open operations, by their places
     for _, is_end, place in sorted(moments):
         if not is_end:
             bits[place] = search.begin(model.operations[place])
@@ -100,20 +119,22 @@ def first_impossible(operations: list[Operation], kind: type[Model], most: int =
 def least(operations: list[Operation], kind: type[Model], last: Operation) -> list[Operation]:
     """Returns operations without an order, all of them necessary: if any operation could have taken effect at any later moment or
     never, the rest would have an order. `last` is the first impossible operation."""
-    core, others = operations, list[Operation]()
-    early, late = ([one for one in operations if (one.begin > last.end) == is_late] for is_late in (False, True))
-    if is_impossible(early + [one.anywhen() for one in late], kind):
-        core = early
-        others = [one.anywhen() for one in late]
+    core = operations
+    others = list[Operation]()  # the operations outside of the core, without limits on their moments
+    early = [operation for operation in operations if operation.begin <= last.end]
+    late = [operation.anywhen() for operation in operations if operation.begin > last.end]
+    if is_impossible(early + late, kind):
+        core, others = early, late
     size = len(core)
-    while size:
+    while size:  # takes stretches out of the core, and halves them, so that fewer searches are needed than operations
         for place in range((len(core) - 1) // size * size, -1, -size):
-            without = core[:place] + core[place + size :]
-            loose = [one.anywhen() for one in core[place : place + size]]
-            if is_impossible(without + others + loose, kind):
-                core, others = without, others + loose
+            rest = core[:place] + core[place + size :]
+            loose = [operation.anywhen() for operation in core[place : place + size]]
+            if is_impossible(rest + others + loose, kind):
+                core = rest
+                others = others + loose
         size //= 2
-    return sorted(core, key=lambda one: (one.begin, one.line))
+    return sorted(core, key=lambda operation: (operation.begin, operation.line))
 
 
 def is_impossible(operations: list[Operation], kind: type[Model]) -> bool:
@@ -123,36 +144,61 @@ def is_impossible(operations: list[Operation], kind: type[Model]) -> bool:
         return False
 
 
+def failures_of(name: str, keys: dict[str, list[Operation]], kind: type[Model], findings: Findings) -> dict[str, Operation]:
+    """Returns the keys whose operations lack an order, each with the operation at whose end no order remains. Reports the keys with
+    too many orders to try."""
+    failures = dict[str, Operation]()
+    for key, operations in keys.items():
+        try:
+            last = first_impossible(operations, kind)
+        except TooMany:
+            findings.fault(name, f"key {key}: too many orders of {len(operations):,} operations to try; use more keys", ROWS)
+            continue
+        if last:
+            failures[key] = last
+    return failures
+
+
+def show_failures(
+    name: str, keys: dict[str, list[Operation]], failures: dict[str, Operation], kind: type[Model]
+) -> list[Operation]:
+    """Shows the keys whose operations lack an order, and the fewest such operations on the key that fails first; returns these
+    operations. The key that fails first is the key with the fewest operations up to its failure."""
+    for key in list(failures)[:MOST_FAULTS]:
+        show(printable(f"{name}: key {key}: {several(len(keys[key]), 'operation')} without an order"))
+    first = min(failures, key=lambda key: sum(operation.begin <= failures[key].end for operation in keys[key]))
+    show(f"key {first} fails by these alone:")
+    fewest = least(keys[first], kind, failures[first])
+    for operation in fewest:
+        show(printable(f"{name}:{operation.line}: {operation.told()}"))
+    return fewest
+
+
+def verdict(count: int, findings: Findings) -> str:
+    """Returns the verdict on the keys, in words."""
+    if count:
+        return f"{count} without an order"
+    if findings.status:
+        return "not all judged"
+    return "each with an order"
+
+
 def check_operations(name: str, data: bytes, model: str, findings: Findings) -> list[Operation]:
     """Reports the keys whose operations lack an order; returns the fewest such operations on the key that fails first."""
     kind = MODELS[model]
     keys, refusals = operations_of(name, data, kind)
-    operations = [one for key in keys.values() for one in key]
-    if not any(one.is_over and one.result for one in operations):
+    operations = [operation for key in keys.values() for operation in key]
+    if not any(operation.is_over and operation.result for operation in operations):
         findings.fault(name, "no operation returned with a result, so nothing can be judged; let clients read", ROWS)
         return []
-    bad, fewest = dict[str, Operation](), list[Operation]()
-    for key, listed in keys.items():
-        try:
-            last = first_impossible(listed, kind)
-        except TooMany:
-            findings.fault(name, f"key {key}: too many orders of {len(listed):,} operations to try; use more keys", ROWS)
-            continue
-        if last:
-            bad[key] = last
-    for key in list(bad)[:MOST_FAULTS]:
-        show(printable(f"{name}: key {key}: {several(len(keys[key]), 'operation')} without an order"))
-    findings.faults += len(bad)
-    if bad:
+    fewest = list[Operation]()
+    failures = failures_of(name, keys, kind, findings)
+    if failures:
+        findings.faults += len(failures)
         findings.status = findings.status or NO_ORDER
-        key = min(bad, key=lambda key: sum(one.begin <= bad[key].end for one in keys[key]))
-        show(f"key {key} fails by these alone:")
-        fewest = least(keys[key], kind, bad[key])
-        for one in fewest:
-            show(printable(f"{name}:{one.line}: {one.told()}"))
+        fewest = show_failures(name, keys, failures, kind)
     sys.stdout.flush()
-    unknown = sum(not one.is_over for one in operations)
-    orders = f"{len(bad)} without an order" if bad else "not all judged" if findings.status else "each with an order"
-    counts = f"{several(len(operations), 'operation')} on {several(len(keys), 'key')}, {orders}"
+    unknown = sum(not operation.is_over for operation in operations)
+    counts = f"{several(len(operations), 'operation')} on {several(len(keys), 'key')}, {verdict(len(failures), findings)}"
     tell(f"{name}: {counts}; {unknown} never returned, {refusals} refused")
     return fewest

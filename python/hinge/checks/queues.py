@@ -15,17 +15,18 @@ END = attrgetter("end")
 
 
 class Rules:
-    """The puts, with their values as keys, the gets that returned a value, and the gets without a result, which may have received any value."""
+    """The puts, with their values as keys, the gets that returned a value, and the gets without a result, which may have received
+    any value."""
 
     def __init__(self, operations: list[Operation]) -> None:
-        self.puts = {one.value: one for one in operations if one.op == "put"}
-        gets = sorted((one for one in operations if one.op == "get"), key=END)
-        self.silent = sorted((one for one in gets if not one.result), key=lambda one: one.begin)
-        self.empty = [one for one in gets if one.result == NULL]
-        self.gets = [one for one in gets if one.result not in ("", NULL)]
-        self.first = {one.result: one for one in reversed(self.gets)}
+        self.puts = {put.value: put for put in operations if put.op == "put"}
+        gets = sorted((get for get in operations if get.op == "get"), key=END)
+        self.silent = sorted((get for get in gets if not get.result), key=lambda get: get.begin)
+        self.empty = [get for get in gets if get.result == NULL]
+        self.gets = [get for get in gets if get.result not in ("", NULL)]
+        self.first = {get.result: get for get in reversed(self.gets)}  # the first get of each value
         puts = sorted(self.puts.values(), key=END)
-        self.ends = [one.end for one in puts]
+        self.ends = [put.end for put in puts]
         self.there = list(accumulate(map(self.surely_there_until, puts), max, initial=ALWAYS))
 
     def surely_there_until(self, put: Operation) -> float:
@@ -34,46 +35,52 @@ class Rules:
         return ALWAYS if self.silent else NEVER
 
     def until(self, moment: float) -> float:
-        """Returns until when a value that was put before the moment is surely in the queue."""
+        """Returns the moment until which the queue surely contains a value that was put before `moment`."""
         return self.there[bisect_left(self.ends, moment)]
 
     def breaches(self) -> Iterator[Operation]:
         """Yields operations at whose end a rule is broken."""
-        for one in self.gets:
-            put = self.puts.get(one.result)
-            if put is None or one.end < put.begin or one is not self.first[one.result] or self.until(put.begin) > one.end:
-                yield one  # its value wasn't put yet, was got before, or overtook another
-        for one in self.empty:
-            moment = one.begin
-            while moment < self.until(moment) <= one.end:
+        for get in self.gets:
+            put = self.puts.get(get.result)
+            if put is None or get.end < put.begin:
+                yield get  # its value wasn't put yet
+            elif get is not self.first[get.result] or self.until(put.begin) > get.end:
+                yield get  # its value was got before, or overtook another value
+        for get in self.empty:
+            moment = get.begin
+            while moment < self.until(moment) <= get.end:
                 moment = self.until(moment)
             if self.until(moment) > moment:
-                yield one  # at no moment might the queue be empty
-        begins = [one.begin for one in self.silent]
-        for count, (_, one) in enumerate(self.due() if self.silent else ()):
-            if bisect_right(begins, one.end) <= count:
-                yield one  # nobody is left who might have got the value that came before
+                yield get  # the queue contained a value at all moments of this get
+        begins = [get.begin for get in self.silent]
+        for count, (_, get) in enumerate(self.due() if self.silent else ()):
+            if bisect_right(begins, get.end) <= count:
+                yield get  # no get is left that might have got the value before this get
 
     def due(self) -> list[tuple[str, Operation]]:
         """Returns the values that no known get returned, each with the first get at whose end the value must have left."""
-        later = [(self.puts[one.result].begin, one) for one in self.gets if one.result in self.puts]
-        later = sorted(later + [(one.begin, one) for one in self.empty], key=lambda pair: pair[0])
+        later = [(self.puts[get.result].begin, get) for get in self.gets if get.result in self.puts]
+        later += [(get.begin, get) for get in self.empty]
+        later.sort(key=lambda pair: pair[0])
         begins = [begin for begin, _ in later]
-        earliest = list(accumulate((one for _, one in reversed(later)), lambda one, other: min(one, other, key=END)))[::-1]
+        gets = (get for _, get in reversed(later))
+        earliest = list(accumulate(gets, lambda get, other: min(get, other, key=END)))[::-1]
         places = {value: bisect_right(begins, put.end) for value, put in self.puts.items() if value not in self.first}
         due = [(value, earliest[place]) for value, place in places.items() if place < len(earliest)]
         return sorted(due, key=lambda pair: pair[1].end)
 
     def likely(self) -> list[Operation]:
-        """Returns the operations with the gets without a result that have to be, which get what has to be gone first."""
+        """Returns the operations in which gets without a result get the values that have to leave first. Other such gets are left
+        out."""
         pairs = zip(self.silent, self.due())
-        guesses = [replace(one, words={**one.words, "result": value}) for one, (value, _) in pairs]
+        guesses = [replace(get, words={**get.words, "result": value}) for get, (value, _) in pairs]
         return [*self.puts.values(), *self.empty, *self.gets, *guesses]
 
 
 def first_breach(operations: list[Operation]) -> tuple[bool, Optional[Operation]]:
-    """Returns whether the rules decide the operations, and the first at whose end one is broken. Each value is put once. Gets without a
-    result beside gets from an empty queue are decided where a rule is broken anyway, or the likely values keep all rules."""
+    """Returns whether the rules decide the operations, and the first operation at whose end a rule is broken. Each value is put
+    once. If there are gets without a result and gets from an empty queue, the rules decide only if a rule is broken anyway, or if
+    the likely values of the gets keep all rules."""
     rules = Rules(operations)
     breach = min(rules.breaches(), key=lambda one: (one.end, one.line), default=None)
     is_clear = breach is not None or not (rules.silent and rules.empty)

@@ -28,10 +28,11 @@ RANGES = dict(zip(HEADER, (*LIMITS, "0 to 4294967295")))
 PROTOCOLS = {"icmp": 1, "igmp": 2, "tcp": 6, "udp": 17, "gre": 47, "esp": 50, "icmpv6": 58, "icmp6": 58, "sctp": 132}
 LAST_MOMENT = 2**62
 LOSS_PARTS = 2**31
-LONGEST_FRAME = 9216  # bytes of a packet that a card sends in one
-FAR = 10**14  # ns at which a first packet is hardly sent
+LONGEST_FRAME = 9216  # bytes of the longest packet that a card sends without cutting it
+FAR = 10**14  # ns; a first packet at a later moment is unlikely
 NS_PER_DAY = 86_400 * 10**9
-STRETCH, STRETCH_LETTERS = 10_000, 2**20  # rows that are judged at once behind a bad one, and their letters
+STRETCH = 10_000  # the most rows that are judged at once behind a bad row
+STRETCH_LETTERS = 2**20  # a stretch with more letters gets no further rows
 
 
 def of_moment(text: str) -> Optional[str]:
@@ -49,13 +50,15 @@ def of_moment(text: str) -> Optional[str]:
 def of_address(text: str) -> str:
     if text.count(":") > 1:
         return "IPv6, which packet files don't have; `hinge packets` writes an address of 240.0.0.0/4 for each"
-    if match := re.fullmatch(r"(\d+\.\d+\.\d+\.\d+)[:/](\d+)", text):
+    match = re.fullmatch(r"(\d+\.\d+\.\d+\.\d+)[:/](\d+)", text)
+    if match:
         return f"an address alone; write {match[1]}"
     return "not an IPv4 address, or with leading zeros; write it as 10.0.0.1"
 
 
 def of_number(name: str, text: str) -> Optional[str]:
-    if match := re.fullmatch(r"0+(\d+)", text):
+    match = re.fullmatch(r"0+(\d+)", text)
+    if match:
         return f"leading zeros aren't taken; write {match[1]}"
     if re.fullmatch(r"0[xX][0-9a-fA-F]+", text):
         return f"hexadecimal isn't taken; write {int(text, 16)}"
@@ -72,15 +75,17 @@ def field_advice(name: str, text: str) -> str:
     if text == "":
         return "empty; write 0" if name in ("sport", "dport", "proto") else f"empty; write {RANGES[name]}"
     if name == "target":
-        other = "write pipe or queue, and its number in the next field"
-        return f"keywords are lower case; write {text.lower()}" if text.lower() in ("pipe", "queue") else other
+        if text.lower() in ("pipe", "queue"):
+            return f"keywords are lower case; write {text.lower()}"
+        return "write pipe or queue, and its number in the next field"
     if name in ("src", "dst"):
         return of_address(text)
     if name == "proto" and text.lower() in PROTOCOLS:
         return f"a protocol is its number; write {PROTOCOLS[text.lower()]}"
     if name == "len" and text == "0":
         return "a packet has 1 byte at least; write its IP length"
-    return (of_moment(text) if name == "moment" else None) or of_number(name, text) or f"write {RANGES[name]}"
+    of_kind = of_moment(text) if name == "moment" else None
+    return of_kind or of_number(name, text) or f"write {RANGES[name]}"
 
 
 def separator(text: str) -> Optional[str]:
@@ -89,7 +94,7 @@ def separator(text: str) -> Optional[str]:
 
 
 def wrong(record: Row, field_number: int) -> str:
-    """Returns the error of a row, for the field that the program names; 0 is the whole row."""
+    """Returns the error of a row. `field_number` is the field that the program names, or 0 for the whole row."""
     if field_number:
         name, text = HEADER[field_number - 1], record.fields[field_number - 1]
         return f"field {field_number} ({name}) {text!r}: {field_advice(name, text)}"
@@ -99,22 +104,30 @@ def wrong(record: Row, field_number: int) -> str:
 
 
 def wrong_header(text: str) -> str:
-    what = "no header" if text[:1].isdigit() else f"another header, {text[:60]!r}"
-    if other := separator(text):
+    other = separator(text)
+    if other:
         what = f"fields are parted by commas, not by {other!r}"
+    elif text[:1].isdigit():
+        what = "no header"
+    else:
+        what = f"another header, {text[:60]!r}"
     return f"{what}; write {','.join(HEADER)}"
 
 
 def verdict(text: bytes) -> tuple[int, str]:
-    """Returns the program's status for a packet file, and its fault."""
+    """Returns the program's exit status for a packet file, and the program's message about the first fault."""
     answer = asked([dummynet(), "replay", "/dev/null", "/dev/stdin"], text, VERDICTS, NOTHING)
     return answer.status, answer.told
 
 
 def look_ahead(ahead: list[Row], rows: Iterator[Row]) -> None:
-    """Adds the next rows, fewer if they are long, since each holds its fields."""
+    """Adds the next rows to `ahead`: at most STRETCH rows, and fewer if they are long, since each row keeps its fields in
+    memory."""
     letters = sum(len(row.text) for row in ahead)
-    while len(ahead) < STRETCH and letters <= STRETCH_LETTERS and (row := next(rows, None)):
+    while len(ahead) < STRETCH and letters <= STRETCH_LETTERS:
+        row = next(rows, None)
+        if row is None:
+            return
         ahead.append(row)
         letters += len(row.text)
 
@@ -146,7 +159,9 @@ class RowCheck:
     def put_header(self, other: Row) -> None:
         """Writes the correct header in place of a wrong header, or above the first row."""
         lines = other.text.encode().splitlines()
-        count = 1 + (other.line - self.line + len(lines)) * lines[0][:1].isalpha()
+        count = 1
+        if lines[0][:1].isalpha():
+            count += other.line - self.line + len(lines)
         rest = re.split(rb"\r\n?|\n", b"\n" + self.data, count)[count:]
         self.data = b"\n".join([HEAD, *rest])
         self.line = self.line + count - 2
@@ -155,8 +170,8 @@ class RowCheck:
         return islice(rows_of(io.BytesIO(self.data), self.line, "utf-8"), begin, None)
 
     def judge(self) -> bool:
-        """Returns whether the program accepts all rows; reports the others."""
-        text = self.data
+        """Reports the rows that the program refuses; returns whether there are none."""
+        text = self.data  # what the program judges: first all rows, then the rows in `ahead`, behind the last bad row
         rows = self.rows()
         ahead = list[Row]()
         reports = 0
@@ -169,8 +184,9 @@ class RowCheck:
                 reports += 1
                 del ahead[:number], bad
             elif status:
-                more = "; `dummynet replay --most-packets BYTES` replays longer ones" if "too long" in fault else ""
-                self.found.fault(self.name, fault + more, status)
+                if "too long" in fault:
+                    fault += "; `dummynet replay --most-packets BYTES` replays longer ones"
+                self.found.fault(self.name, fault, status)
                 return False
             else:
                 ahead.clear()
@@ -199,10 +215,11 @@ class RowCheck:
             self.warn_of_words(sums, self.in_force)
 
     def warn_of_moments(self, sums: Sums) -> None:
-        late, count, span = sums.late, sums.rows, sums.clock - sums.first_moment
-        if late:
+        count = sums.rows
+        span = sums.clock - sums.first_moment
+        if sums.late:
             what = "have a moment before that of a row above, and count as sent at that one's; sort the rows by moment"
-            self.found.warn(f"{self.name}:{self.line - 1 + sums.late_line}", f"{late} of {count} rows {what}")
+            self.found.warn(f"{self.name}:{self.line - 1 + sums.late_line}", f"{sums.late} of {count} rows {what}")
         if count >= 100 and span < 100 * count:
             self.found.warn(self.name, f"{count} packets within {span} ns; moments are nanoseconds (1 s is 1000000000)")
         if sums.first_moment > FAR:
@@ -211,15 +228,16 @@ class RowCheck:
 
     def warn_of_targets(self, sums: Sums, force: InForce) -> None:
         numbers = {"pipe": set(force.pipes), "queue": set(force.queues)}
-        unknown = [one for one in sums.targets if one.number not in numbers[one.kind]]
+        unknown = [target for target in sums.targets if target.number not in numbers[target.kind]]
         none = "; NO row has a target" if len(unknown) == len(sums.targets) else ""
-        for one in unknown[:MOST_FAULTS]:
-            what = f"go to {one.kind} {one.number}, which {self.config} doesn't configure{none}"
-            self.found.warn(f"{self.name}:{self.line - 1 + one.line}", f"{one.rows} of {sums.rows} rows {what}")
+        for target in unknown[:MOST_FAULTS]:
+            what = f"go to {target.kind} {target.number}, which {self.config} doesn't configure{none}"
+            self.found.warn(f"{self.name}:{self.line - 1 + target.line}", f"{target.rows} of {sums.rows} rows {what}")
 
     def warn_of_words(self, sums: Sums, force: InForce) -> None:
         settings: list[Setting] = [*force.pipes.values(), *force.queues.values()]
         rates = [setting.loss for setting in settings if setting.loss]
         if rates and sums.rows > 1 and not sums.differ:
-            fate = f"one fate ({'lost' if sums.word % LOSS_PARTS < max(rates) else 'not lost'}); draw each word anew"
-            self.found.warn(self.name, f"each word is {sums.word}, so under a loss rate all packets have {fate}")
+            fate = "lost" if sums.word % LOSS_PARTS < max(rates) else "not lost"
+            why = f"each word is {sums.word}, so under a loss rate all packets have one fate ({fate})"
+            self.found.warn(self.name, f"{why}; draw each word anew")

@@ -7,7 +7,7 @@ from typing import Iterator, Mapping, NamedTuple
 from hinge.configurations.configured import InForce, Pipe, Queue
 from hinge.replays.units import ms
 
-LENGTH = 1500  # bytes of the longest packet, for which the bound is told
+LENGTH = 1500  # bytes of the longest packet for which messages give the bound
 
 
 class Bound(NamedTuple):
@@ -29,11 +29,12 @@ def longest_wait_ns(pipe: Pipe, length: int) -> int:
     """Returns the longest time from a packet's acceptance to its start, if no packet is longer: a full queue's time and the time
     for the packet in transmission. A queue of Kbytes contains at most as many packets as bytes, and each packet's time is rounded
     up."""
-    one = transmission_ns(pipe.bw, length)
+    longest = transmission_ns(pipe.bw, length)
     if pipe.limit.slots is not None:
-        return pipe.limit.slots * one
+        return pipe.limit.slots * longest
     room = (pipe.limit.kbytes or 0) * 1024
-    return transmission_ns(pipe.bw, room) + (room if pipe.bw else 0) + one
+    rounding = room if pipe.bw else 0
+    return transmission_ns(pipe.bw, room) + rounding + longest
 
 
 def bound_of(pipe: Pipe, length: int) -> Bound:
@@ -49,7 +50,7 @@ def with_bound(pipes: Mapping[int, Pipe], queues: Mapping[int, Queue]) -> list[P
 
 
 def told_wait(in_force: InForce) -> Iterator[str]:
-    """Yields the bound of each such pipe as text."""
+    """Yields the bound of each pipe without queues, as text."""
     for pipe in with_bound(in_force.pipes, in_force.queues):
         limit = bound_of(pipe, LENGTH)
         yield (

@@ -17,17 +17,19 @@ if TYPE_CHECKING:
 
 TITLE_WIDTH, TITLE_LINES = 110, 3
 BELOW_WIDTH, BELOW_LINES = 165, 6
-BEHIND = 1.5  # matplotlib's order of a line that those of flows cover
+BEHIND = 1.5  # matplotlib's order of lines that the lines of flows cover
 DASHES = {SOLID: "-", DASHED: "--", DOTTED: ":", MIXED: "-.", DENSE: (0, (8, 2))}
-NAME_ROOM, MOST_ROOM = 0.078, 0.7  # of a panel's height: what a row of names takes, and what all take at most
-LINE_INCHES, KEY_COLUMNS = 0.19, 2
-SHADE = {"color": "#d55e00", "alpha": 0.12, "lw": 0, "zorder": 0}  # of a time in which a link lost or held all packets
+NAME_ROOM = 0.078  # the part of a panel's height that a row of names takes
+MOST_ROOM = 0.7  # the part that all rows of names take at most
+LINE_INCHES = 0.19  # the height of a line of text
+KEY_COLUMNS = 2
+SHADE = {"color": "#d55e00", "alpha": 0.12, "lw": 0, "zorder": 0}  # marks a time in which a link lost or held all packets
 LABEL_BOX = {"boxstyle": "round,pad=0.15", "facecolor": "#ffffff", "edgecolor": "none", "alpha": 0.75}
-TIMES: dict[str, dict[str, None]] = {"svg": {"Date": None}, "pdf": {"CreationDate": None}}  # which aren't written
+TIMES: dict[str, dict[str, None]] = {"svg": {"Date": None}, "pdf": {"CreationDate": None}}  # keeps dates out of files
 
 
 def title_lines(title: str, width: int = TITLE_WIDTH) -> list[str]:
-    """Returns a title in a few lines; the rest is left out."""
+    """Returns a title in at most TITLE_LINES lines; the rest is left out."""
     return textwrap.wrap(title, width, max_lines=TITLE_LINES, placeholder=" ..")
 
 
@@ -43,15 +45,18 @@ def as_written(text: str) -> str:
 
 @singledispatch
 def draw(item: object, axes: Axes, base: Reals) -> Reals:
-    """Draws an item; bars are above `base`, which returns with them. TypeError: the item is of no kind."""
+    """Draws an item, with bars on top of `base`; returns the base for the next bars. TypeError: there is no such kind of item."""
     raise TypeError(item)
 
 
 @draw.register(Line)
 def draw_line(item: Line, axes: Axes, base: Reals) -> Reals:
     style = {"color": item.color, "lw": item.width, "ls": DASHES[item.dash], "solid_capstyle": "butt", "label": item.name}
-    style |= {"drawstyle": "steps-post"} if item.steps else {}
-    axes.plot(item.x, item.y, **style, **({"zorder": BEHIND} if item.is_behind else {}))
+    if item.steps:
+        style["drawstyle"] = "steps-post"
+    if item.is_behind:
+        style["zorder"] = BEHIND
+    axes.plot(item.x, item.y, **style)
     return base
 
 
@@ -80,9 +85,9 @@ def draw_bars(item: Bars, axes: Axes, base: Reals) -> Reals:
 @draw.register(Graph)
 def draw_graph(item: Graph, axes: Axes, base: Reals) -> Reals:
     for edge in item.edges:
-        one, other = item.nodes[edge.begin], item.nodes[edge.end]
-        axes.plot([one.x, other.x], [one.y, other.y], color=edge.color, lw=edge.width, ls=DASHES[edge.dash], zorder=BEHIND)
-        middle = (one.x + other.x) / 2, (one.y + other.y) / 2
+        begin, end = item.nodes[edge.begin], item.nodes[edge.end]
+        axes.plot([begin.x, end.x], [begin.y, end.y], color=edge.color, lw=edge.width, ls=DASHES[edge.dash], zorder=BEHIND)
+        middle = (begin.x + end.x) / 2, (begin.y + end.y) / 2
         axes.text(*middle, as_written(edge.label), fontsize=7, ha="center", va="center", bbox=LABEL_BOX)
     for node in item.nodes:
         box = {"boxstyle": "square" if node.is_switch else "round", "facecolor": "#ffffff", "edgecolor": "#000000"}
@@ -132,14 +137,15 @@ def finish_panel(axes: Axes, panel: Panel, drawing: Drawing) -> int:
 
 
 def make_room(axes: Axes, rows: int) -> None:
-    """Room above the lines for so many rows of names."""
+    """Raises an axis's upper limit, so that `rows` rows of names fit above the lines."""
     if rows:
         low, high = axes.get_ylim()
         axes.set_ylim(low, low + (high - low) / (1 - min(NAME_ROOM * rows + 0.03, MOST_ROOM)))
 
 
 def name_flows(fig: Figure, column: Sequence[Axes], drawing: Drawing, several: bool, top: float) -> float:
-    """Writes the names of flows with their colors above the panels, `top` inches below the upper edge; returns their height in inches."""
+    """Writes the names of flows with their colors above the panels, `top` inches below the upper edge; returns the height of the
+    names in inches."""
     handles = {label: handle for axes in reversed(column) for handle, label in zip(*axes.get_legend_handles_labels())}
     labels = [as_written(key.name if several else key.told) for key in drawing.keys]
     if not labels:
@@ -185,8 +191,9 @@ def figure(drawings: list[Drawing], title: str) -> Figure:
     for drawing, column in zip(drawings, cells):
         if several:
             column[0].set_title(f"{as_written(drawing.name)}\n{column[0].get_title()}")
-    for cell in [] if several else cells[0][len(rows) :]:
-        cell.set_axis_off()
+    if not several:
+        for cell in cells[0][len(rows) :]:
+            cell.set_axis_off()
     frame(fig, cells[0], drawings[0], several, title_lines(title))
     return fig
 
@@ -195,12 +202,14 @@ def frame(fig: Figure, column: Sequence[Axes], drawing: Drawing, several: bool, 
     """Writes the title and the names of flows above all panels, and the text below them."""
     below = below_lines(drawing.below)
     fig.set_figheight(fig.get_figheight() + LINE_INCHES * -(-len(drawing.keys) // KEY_COLUMNS))
-    height, top = fig.get_figheight(), 0.25 * len(title) + 0.1
+    height = fig.get_figheight()
+    top = 0.25 * len(title) + 0.1
     fig.suptitle(as_written("\n".join(title)), y=1 - 0.1 / height, va="top")
     top += name_flows(fig, column, drawing, several, top)
     if below:
         fig.text(0.01, 0.06 / height, as_written("\n".join(below)), fontsize=7.5, color="#444444", va="bottom", family="monospace")
-    fig.tight_layout(rect=(0, (LINE_INCHES * len(below) + 0.1 * bool(below)) / height, 1, 1 - top / height))
+    room_below = LINE_INCHES * len(below) + 0.1 if below else 0
+    fig.tight_layout(rect=(0, room_below / height, 1, 1 - top / height))
 
 
 def begin_drawing() -> None:
@@ -210,7 +219,7 @@ def begin_drawing() -> None:
 
 
 def save(drawings: list[Drawing], path: str, kind: str, title: str) -> None:
-    """Draws into a file, whose kind is the ending of a name."""
+    """Draws pictures side by side into a file. `kind` is a format of matplotlib, such as `png`."""
     begin_drawing()
     with working("drawing"):
         save_figure(figure(drawings, title), path, kind)

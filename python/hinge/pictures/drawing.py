@@ -29,12 +29,13 @@ class Line:
     width: float = 1.5
     dash: str = SOLID
     steps: bool = True
-    is_behind: bool = False  # those of flows cover it
+    is_behind: bool = False  # whether the lines of flows cover this line
 
 
 @dataclass(frozen=True)
 class Band:
-    """A band between `low` and `high` with a middle line, in steps; `x` contains the final end too. Steps without a value are nan."""
+    """A band between `low` and `high` with a middle line, in steps. `x` contains the steps' starts and the last end. Steps without
+    a value are nan."""
 
     name: str
     x: Reals
@@ -47,7 +48,7 @@ class Band:
 
 @dataclass(frozen=True)
 class Points:
-    """Packets, as places of the replay."""
+    """Points for packets. `places` are the packets' places in the replay."""
 
     name: str
     places: Integers
@@ -114,10 +115,10 @@ class Panel:
     notes: list[str] = field(default_factory=list)
     from_zero: bool = True
     has_time: bool = True
-    is_whole: bool = False  # its values are whole numbers
-    most: Optional[float] = None  # of the axis up, where that isn't by the values
-    names: list[str] = field(default_factory=list)  # of 0, 1, 2 .. of the axis across
-    rows: list[str] = field(default_factory=list)  # names of 0.5, 1.5, 2.5 .. of the axis up
+    is_whole: bool = False  # whether the values are whole numbers
+    most: Optional[float] = None  # the vertical axis's upper limit; None if the values decide
+    names: list[str] = field(default_factory=list)  # the names of 0, 1, 2 .. on the horizontal axis
+    rows: list[str] = field(default_factory=list)  # the names of 0.5, 1.5, 2.5 .. on the vertical axis
 
 
 @dataclass(frozen=True)
@@ -140,4 +141,4 @@ class Drawing:
     below: list[str] = field(default_factory=list)
     of_keys: str = "Flows, the largest first"
     row_inches: float = 3.75
-    shades: tuple[tuple[float, float], ...] = ()  # s from which to which a link lost or held all packets
+    shades: tuple[tuple[float, float], ...] = ()  # the times in s in which a link lost or held all packets

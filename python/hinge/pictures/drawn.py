@@ -24,12 +24,14 @@ def series_of(sources: list[Source], by: str, top: Optional[int], step_ms: Optio
     span = span_of(replays)
     step_ns = step_ms * NS_PER_MS if step_ms else fitting_step(replays, span)
     most = min(top or MOST_FLOWS, MOST_FLOWS)
-    flows = [group(replay, by).largest(replay.packets.length, most) for replay in (replays if by == "flow" else replays[:1])]
-    each = zip(sources, flows * (len(sources) // len(flows)))
-    return [
-        series(one.replay, groups, step_ns, span, one.changes, one.lateness, () if one.whole else one.bounds or ())
-        for one, groups in each
-    ]
+    flows = group(replays[0], by).largest(replays[0].packets.length, most)
+    result = list[Series]()
+    for source in sources:
+        if by == "flow" and source is not sources[0]:
+            flows = group(source.replay, by).largest(source.replay.packets.length, most)
+        bounds = () if source.whole else source.bounds or ()
+        result.append(series(source.replay, flows, step_ns, span, source.changes, source.lateness, bounds))
+    return result
 
 
 def provenance_of(sources: list[Source]) -> list[str]:
@@ -41,20 +43,32 @@ def provenance_of(sources: list[Source]) -> list[str]:
     return provenance(lines, list(dict.fromkeys(names)), sources[0].seed)
 
 
+def first_link(source: Source, number: int) -> str:
+    """Returns the link words of a pipe's first configuration, or an empty text if no command configures the pipe."""
+    begin = f"pipe {number} config"
+    for _, text in source.changes:
+        if text.startswith(begin):
+            return as_link(text.removeprefix(begin).strip()) or "no limit"
+    return ""
+
+
 def of_run(source: Source) -> str:
-    """The link of a run in the words that a user types: of a session with a seed, whose pipes 1 and 2 are the two ways."""
-    first = [next((text for _, text in source.changes if text.startswith(f"pipe {number} config")), None) for number in (1, 2)]
-    if source.seed is None or None in first or {kind for kind, _ in source.replay.packets.targets} != {"pipe"}:
+    """Returns a run's link in the words that a user types; an empty text if the source isn't a run, which is a session with a seed
+    whose pipes 1 and 2 are the link's two directions."""
+    if source.seed is None or {kind for kind, _ in source.replay.packets.targets} != {"pipe"}:
         return ""
-    configured = (as_link(str(text).partition(" config")[2].strip()) or "no limit" for text in first)
-    up, down = (source.words.get(option, text) for option, text in zip(("--up", "--down"), configured))
+    link_up, link_down = first_link(source, 1), first_link(source, 2)
+    if not link_up or not link_down:
+        return ""
+    up = source.words.get("--up", link_up)
+    down = source.words.get("--down", link_down)
     return up if up == down else f"up {up}, down {down}"
 
 
 def draw_sources(sources: list[Source], path: str, options: LookOptions) -> None:
     """Draws the picture or the page of the command line. A page shows a single source."""
     result = series_of(sources, options.by, options.top, options.step)
-    drawings = [drawing(one, provenance_of(sources)) for one in result]
+    drawings = [drawing(flows_in_time, provenance_of(sources)) for flows_in_time in result]
     is_page = format_of(path) is Format.PAGE
     title = options.title or of_run(sources[0])
     parts = (sources[0].whole or sources[0]).parts

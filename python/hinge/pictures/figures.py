@@ -14,7 +14,7 @@ from hinge.replays.links import Parts
 from hinge.replays.replay import EVENT_NAMES, FULL, HELD, LOST, NONE, OUT, Replay
 
 PERCENTILES = (50, 95, 99)
-RECENT = 1 << 9  # packets
+RECENT = 1 << 9  # the packets from which the jitter is computed first
 WHOLE = slice(None)
 Value = dict[str, Union[int, float, None]]
 Rows = Union[Integers, slice]
@@ -36,7 +36,7 @@ def exact_sum(column: Integers) -> int:
 
 
 def mean(total: int, count: int) -> Optional[int]:
-    """Rounded down to whole ns."""
+    """Returns a mean, rounded down to whole ns, or None without values."""
     return total // count if count else None
 
 
@@ -66,7 +66,8 @@ def jitter(due: Integers, packet: Integers, took: Integers) -> Optional[int]:
     few packets suffice if the smallest and the greatest possible earlier jitter lead to the same result."""
     if len(took) < 2:
         return None
-    most, count = int(took.max()) - int(took.min()), RECENT
+    most = int(took.max()) - int(took.min())
+    count = RECENT
     while True:
         recent = took[last_to_leave(due, packet, count)].tolist()
         least, greatest = (jitter_after(before, recent) for before in (0, 16 * most + 7))
@@ -83,7 +84,7 @@ def jitter_after(sixteenfold: int, delays: list[int]) -> int:
 
 
 def of_rows(replay: Replay, rows: Rows, flows: list[slice]) -> Iterator[Value]:
-    """Yields each flow's figures for all rows."""
+    """Yields each flow's figures that count all rows, also those of packets that didn't leave."""
     event, length, at = (column[rows] for column in (replay.event, replay.packets.length, replay.at))
     for flow in flows:
         size = exact_sum(length[flow])
@@ -91,15 +92,24 @@ def of_rows(replay: Replay, rows: Rows, flows: list[slice]) -> Iterator[Value]:
         yield value | {EVENT_NAMES[kind]: int(np.count_nonzero(event[flow] == kind)) for kind in (OUT, LOST, FULL, NONE, HELD)}
 
 
+def sums_of(column: Integers, flows: list[slice]) -> list[int]:
+    """Returns the sum of each flow's numbers in a column."""
+    return [exact_sum(column[flow]) for flow in flows]
+
+
 def of_delays(replay: Replay, parts: Optional[Parts], out: Rows, flows: list[slice]) -> Iterator[Value]:
     """Yields each flow's figures for packets that left, and finally those for all flows, without jitter. The delays' parts need
     the configuration."""
-    columns = (replay.at, replay.due, replay.packets.length, replay.start, *([parts.transmission] if parts else []))
-    sums = [*zip(*([exact_sum(column[flow]) for flow in flows] for column in (column[out] for column in columns)))]
-    all_sums = tuple(map(sum, zip(*sums))) or (0,) * len(columns)
+    columns = [replay.at, replay.due, replay.packets.length, replay.start]
+    if parts:
+        columns.append(parts.transmission)
+    sums_of_columns = [sums_of(column[out], flows) for column in columns]
+    sums = list(zip(*sums_of_columns))
+    all_sums = tuple(sum(sums_of_column) for sums_of_column in sums_of_columns)
     due, packet, took = replay.due[out], replay.packet[out], replay.took[out]
     for flow, (at, end, size, start, *sending) in zip((*flows, WHOLE), (*sums, all_sums)):
-        own, count = took[flow], len(took[flow])
+        own = took[flow]
+        count = len(own)
         value: Value = {"carried_mbit_s": rate(size, due[flow]), "min_ns": int(own.min()) if count else None}
         value |= {"mean_ns": mean(end - at, count), **percentiles(own), "max_ns": int(own.max()) if count else None}
         value["jitter_ns"] = None if flow is WHOLE else jitter(due[flow], packet[flow], own)
@@ -114,15 +124,18 @@ def of_delays(replay: Replay, parts: Optional[Parts], out: Rows, flows: list[sli
 def table_of(replay: Replay, parts: Optional[Parts], by: str = "tuple", top: int = TABLE_FLOWS) -> list[Figures]:
     """Returns the figures for the largest flows, for the other flows together, and for all rows."""
     flows = group(replay, by).largest(replay.packets.length, top)
-    count, is_out = len(flows.names), replay.is_out
-    rows: Rows = WHOLE if (flows.of[1:] >= flows.of[:-1]).all() else order_of(flows.of, count)  # a copy only of rows without order
+    count = len(flows.names)
+    is_out = replay.is_out
+    has_order = (flows.of[1:] >= flows.of[:-1]).all()
+    rows: Rows = WHOLE if has_order else order_of(flows.of, count)  # rows in order needn't be copied
     of_all = [*of_rows(replay, rows, [*spans(flows.of, count), WHOLE])]
     if is_out.all():
         of_those_out = of_delays(replay, parts, rows, spans(flows.of, count))
     else:
         out = np.flatnonzero(is_out) if isinstance(rows, slice) else rows[is_out[rows]]
         of_those_out = of_delays(replay, parts, out, spans(flows.of[is_out], count))
-    return [Figures(name, {**one, **other}) for name, one, other in zip([*flows.names, "all"], of_all, of_those_out)]
+    values = zip([*flows.names, "all"], of_all, of_those_out)
+    return [Figures(name, {**counts, **delays}) for name, counts, delays in values]
 
 
 def write_csv(table: list[Figures], out: IO[str]) -> None:

@@ -5,6 +5,7 @@ from __future__ import annotations
 import gzip
 import html
 import json
+import math
 from base64 import b64encode
 from functools import singledispatchmethod
 from pathlib import Path
@@ -22,9 +23,10 @@ from hinge.replays.units import ms
 
 PAGE = Path(__file__).with_name("page.html")
 PACKING = 6  # gzip's level
-MOST_TOLD, MOST_OF_WAY = 6_000, 500  # packets that left and are told of on a page, and of each way of a net
+MOST_TOLD = 6_000  # the packets that left and have a text on the page of a replay
+MOST_OF_WAY = 500  # the packets with a text for each way (one direction of a link) on the page of a net
 TITLE_WIDTH, BELOW_WIDTH = 140, 200
-Part = dict[str, Any]  # what the page draws by one path
+Part = dict[str, Any]  # a shape that the page draws as a single path
 
 
 def teller(flows_in_time: Series, explainer: Explainer | None, rows: Optional[Integers] = None) -> Callable[[int], str]:
@@ -33,15 +35,20 @@ def teller(flows_in_time: Series, explainer: Explainer | None, rows: Optional[In
     replay = flows_in_time.replay
     if explainer is not None:
         paragraph = explainer.paragraph
-        return lambda place: " ".join(paragraph((place if rows is None else int(rows[place])) + 1).split())
 
-    def parts(place: int) -> str:
+        def paragraph_of(place: int) -> str:
+            whole_place = place if rows is None else int(rows[place])
+            return " ".join(paragraph(whole_place + 1).split())
+
+        return paragraph_of
+
+    def report_of(place: int) -> str:
         at, start, due = int(replay.at[place]), int(replay.start[place]), int(replay.due[place])
         if not replay.is_out[place]:
             return f"Row {place + 1}: {EVENT_NAMES[replay.event[place]]}."
         return f"Row {place + 1} took {ms(due - at)} = {ms(start - at)} waiting + {ms(due - start)} transmission and delay."
 
-    return parts
+    return report_of
 
 
 def outline(edges: Reals, low: Reals, high: Reals) -> tuple[Reals, Reals]:
@@ -59,12 +66,12 @@ def outline(edges: Reals, low: Reals, high: Reals) -> tuple[Reals, Reals]:
 
 
 def numbers(values: Reals) -> list[Optional[float]]:
-    """Nine digits of each, and None for a gap."""
-    return [None if value != value else float(f"{value:.9g}") for value in values.tolist()]
+    """Returns each value with nine digits, and None for a gap, which is nan."""
+    return [None if math.isnan(value) else float(f"{value:.9g}") for value in values.tolist()]
 
 
 def group_of(name: str, flow: Optional[int]) -> str:
-    """Under which name the page hides something in all panels."""
+    """Returns the name with which the page hides an item in all panels: the flow's number, or else the item's name."""
     return name if flow is None else f"flow {flow}"
 
 
@@ -74,11 +81,15 @@ def part(item: Line | Band | Points | Bars, x: Reals, y: Reals, **style: object)
 
 
 class HtmlPage:
-    """Prepares the data of a replay, or of a net without series, for a page. `tell` returns the text on a packet."""
+    """Prepares the data of a replay, or of a net without series, for a page. `tell` returns the text about a packet."""
 
     def __init__(self, drawing: Drawing, tell: Callable[[int], str], flows_in_time: Optional[Series] = None) -> None:
-        self.found, self.drawing, self.tell = flows_in_time, drawing, tell
-        self.progress, self.told, self.base = Progress("packets told of"), 0, np.zeros(0)
+        self.series = flows_in_time
+        self.drawing = drawing
+        self.tell = tell
+        self.progress = Progress("packets told of")
+        self.told = 0  # the number of packets with a text
+        self.base = np.zeros(0)  # the tops of the bars that the next bars stand on
 
     @singledispatchmethod
     def parts(self, item: object) -> Iterator[Part]:
@@ -87,7 +98,9 @@ class HtmlPage:
 
     @parts.register
     def _(self, item: Line) -> Iterator[Part]:
-        x, y = (np.repeat(item.x, 2)[1:], np.repeat(item.y, 2)[:-1]) if item.steps else (item.x, item.y)
+        x, y = item.x, item.y
+        if item.steps:
+            x, y = np.repeat(x, 2)[1:], np.repeat(y, 2)[:-1]
         yield part(item, x, y, width=item.width, dash=item.dash)
 
     @parts.register
@@ -95,14 +108,15 @@ class HtmlPage:
         """Yields the band, with the packets' points and texts."""
         yield part(item, *outline(item.x, item.low, item.high), fill=0.3)
         yield part(item, np.repeat(item.x, 2)[1:-1], np.repeat(item.middle, 2))
-        yield from self.points(item, self.found.flows[item.flow].out_places, self.found) if self.found else ()
+        if self.series:
+            yield from self.points(item, self.series.flows[item.flow].out_places, self.series)
 
     @parts.register
     def _(self, item: Points) -> Iterator[Part]:
         if item.is_cross:
             yield part(item, item.x, item.y, width=1, cross=True, words=self.texts(item.places))
-        elif self.found:
-            yield from self.points(item, item.places, self.found)
+        elif self.series:
+            yield from self.points(item, item.places, self.series)
         else:
             some = spread(np.arange(len(item.places)), MOST_OF_WAY)
             words = {} if item.flow is None else {"words": self.texts(item.places[some])}
@@ -116,7 +130,7 @@ class HtmlPage:
 
     def points(self, item: Band | Points, places: Integers, found: Series) -> Iterator[Part]:
         """Yields some of a flow's packets, including the fastest and slowest in each stretch of time."""
-        count = sum(len(one.out_places) for one in found.flows) or 1
+        count = sum(len(flow.out_places) for flow in found.flows) or 1
         places = thinned(places, found.replay, max(MOST_TOLD * len(places) // count, 100))
         yield part(item, found.sent_at(places), found.took_ms(places), width=4, words=self.texts(places))
 
@@ -128,9 +142,10 @@ class HtmlPage:
     def panel(self, number: int, panel: Panel) -> Part:
         self.base = np.zeros(0)
         is_of_packets = any(isinstance(item, (Band, Points)) for item in panel.items)
-        marks = Panels(self.found).drop_points() if self.found and number == DELAYS else []
+        marks = Panels(self.series).drop_points() if self.series and number == DELAYS else []
+        title = f"{panel.title}: over a packet, why" if is_of_packets else panel.title
         return {
-            "title": panel.title + (": over a packet, why" if is_of_packets else ""),
+            "title": title,
             "across": panel.across,
             "unit": panel.across.rpartition(" ")[2],
             "up": panel.up,
@@ -138,29 +153,30 @@ class HtmlPage:
             "most": panel.most,
             "whole": panel.is_whole,
             "time": panel.has_time,
-            "items": [one for item in [*panel.items, *marks] for one in self.parts(item)],
+            "items": [shape for item in [*panel.items, *marks] for shape in self.parts(item)],
         }
 
     def notes(self) -> list[str]:
         """Returns the panels' notes, and the page's omissions, so that nobody counts points."""
         notes = list(dict.fromkeys(note for panel in self.drawing.panels if panel for note in panel.notes))
-        rest = int(np.count_nonzero(self.found.replay.event != HELD)) - self.told if self.found else 0
-        if rest > 0:
+        count = int(np.count_nonzero(self.series.replay.event != HELD)) if self.series else 0
+        if count > self.told:
             which = "the fastest and the slowest of a stretch of time, and some between"
-            notes.append(f"{self.told:,} of {self.told + rest:,} packets have a point: {which}")
+            notes.append(f"{self.told:,} of {count:,} packets have a point: {which}")
         return notes
 
     def record(self, title: str) -> Part:
         """Returns the page's data. Each name occurs once: first the flows, the largest first, and then everything else."""
-        there = [
-            (number, panel) for number, panel in enumerate(self.drawing.panels) if panel and not isinstance(panel.items[0], Graph)
+        panels = [
+            self.panel(number, panel)
+            for number, panel in enumerate(self.drawing.panels)
+            if panel and not isinstance(panel.items[0], Graph)
         ]
-        panels = [self.panel(number, panel) for number, panel in there]
         self.progress.done()
         keys = enumerate(self.drawing.keys)
         names = {group_of("", number): {"name": key.told, "color": key.color} for number, key in keys}
-        for one in [item for panel in panels for item in panel["items"]]:
-            names.setdefault(one["group"], {key: one[key] for key in ("name", "color", "dash") if key in one})
+        for shape in [shape for panel in panels for shape in panel["items"]]:
+            names.setdefault(shape["group"], {key: shape[key] for key in ("name", "color", "dash") if key in shape})
         margin = 0.02 * self.drawing.seconds
         return {
             "title": "\n".join(title_lines(title, TITLE_WIDTH)),

@@ -1,5 +1,5 @@
-"""A picture of the fewest operations without an order: a line for each client, a bar for each operation, and shades for faults. The axis
-has the moments in their order and not to scale, since an operation of some ms may fail a read a minute later."""
+"""A picture of the fewest operations without an order: a line for each client, a bar for each operation, and shades for faults. The
+axis shows the moments in order, but not to scale, since an operation that takes some ms may fail a read a minute later."""
 
 from __future__ import annotations
 
@@ -28,8 +28,10 @@ from hinge.pictures.series import NS_PER_S
 from hinge.run.words import Wrong
 from hinge.simulated.failures import NET_KEY, file_beside
 
-SHADE, BAR, INCHES = "#f3cfc6", 9.0, 4.0
-WIDTH = 80  # letters of a line beside the picture
+SHADE = "#f3cfc6"  # the color of faults
+BAR = 9.0  # the width of an operation's bar
+INCHES = 4.0  # the height of the picture
+WIDTH = 80  # the letters of a line beside the picture
 LONGEST_PACKET = 1500
 
 
@@ -43,7 +45,8 @@ class Shade(NamedTuple):
 
 @contextmanager
 def net_in(path: Path) -> Iterator[Path]:
-    """Yields the net, or a failure's net, whose file lies beside the failure meanwhile. Fault: the failure is that of no net."""
+    """Yields the path of a net. For a failure of a test (a JSON file), the net is a temporary file beside the failure. Fault: the
+    failure contains no net."""
     if not read_bytes(str(path), MOST_TEXT).startswith(b"{"):
         yield path
         return
@@ -61,12 +64,12 @@ def shades_of(path: str) -> list[Shade]:
             events = NetPlan(read_description(str(net)), LONGEST_PACKET, 0).events
     except Wrong as wrong:
         raise Fault(str(wrong), ROWS) from None
-    if any(one.is_drawn for one in events):
+    if any(event.is_drawn for event in events):
         raise Fault(f"{path}: a seed draws its faults; name the failure that hinge search wrote, or a net of its lines `at`", FILES)
     if not events:
         raise Fault(f"{path}: it has no fault", FILES)
     ends = dict(fault_ends(events))
-    return [shade_of(one, ends.get(place), events) for place, one in enumerate(events) if place not in ends.values()]
+    return [shade_of(event, ends.get(place), events) for place, event in enumerate(events) if place not in ends.values()]
 
 
 def shade_of(one: TimedEvent, end: Optional[int], events: list[TimedEvent]) -> Shade:
@@ -75,43 +78,49 @@ def shade_of(one: TimedEvent, end: Optional[int], events: list[TimedEvent]) -> S
 
 
 def operations_drawing(name: str, fewest: list[Operation], shades: list[Shade]) -> Drawing:
-    """Each operation has a color, which also marks its words; an operation that never returned is dashed and lasts."""
-    first = min(one.begin for one in fewest)
-    last = max(one.end if one.is_over else one.begin for one in fewest)
-    shades = [one for one in shades if one.begin <= last and one.end >= first]
-    spans = [*((one.begin, one.end) for one in fewest), *((one.begin, one.end) for one in shades)]
+    """Returns the picture of operations. Each operation gets a color, which also marks its text. The bar of an operation that never
+    returned is dashed, and ends at the right edge."""
+    first = min(operation.begin for operation in fewest)
+    last = max(operation.end if operation.is_over else operation.begin for operation in fewest)
+    shades = [shade for shade in shades if shade.begin <= last and shade.end >= first]
+    spans = [(operation.begin, operation.end) for operation in fewest]
+    spans += [(shade.begin, shade.end) for shade in shades]
     moments = sorted({*(begin for begin, _ in spans), *(min(end, last) for _, end in spans)} - {-math.inf})
     place = {moment: float(number) for number, moment in enumerate(moments)}
-    clients = sorted({one.client for one in fewest}, reverse=True)
-    covered = [len(clients) * any(one.begin <= moment < one.end for one in shades) for moment in moments]
-    items: list[Item] = (
-        [Bars("a fault", np.arange(len(moments), dtype=float), 1, np.array(covered, float), SHADE)] if shades else []
-    )
+    clients = sorted({operation.client for operation in fewest}, reverse=True)
+    items = list[Item]()
+    if shades:
+        is_in_fault = np.array([any(shade.begin <= moment < shade.end for shade in shades) for moment in moments])
+        heights = np.where(is_in_fault, float(len(clients)), 0.0)
+        items.append(Bars("a fault", np.arange(len(moments), dtype=float), 1, heights, SHADE))
     keys = list[Key]()
-    for number, one in enumerate(fewest):
+    for number, operation in enumerate(fewest):
         color = COLORS[number % len(COLORS)]
-        told = f"{name}:{one.line}: {one.told()}"
-        dash = SOLID if one.is_over else DASHED
-        x = np.array([place[one.begin], place[min(one.end, last)] if one.is_over else len(moments) - 0.5])
-        y = np.full(2, clients.index(one.client) + 0.5)
-        items.append(Line(str(one.line), x, y, color, number, BAR, dash, steps=False))
-        keys.append(Key(str(one.line), color, textwrap.fill(told, WIDTH, subsequent_indent="  ")))
+        told = f"{name}:{operation.line}: {operation.told()}"
+        dash = SOLID if operation.is_over else DASHED
+        end = place[min(operation.end, last)] if operation.is_over else len(moments) - 0.5
+        x = np.array([place[operation.begin], end])
+        y = np.full(2, clients.index(operation.client) + 0.5)
+        items.append(Line(str(operation.line), x, y, color, number, BAR, dash, steps=False))
+        keys.append(Key(str(operation.line), color, textwrap.fill(told, WIDTH, subsequent_indent="  ")))
     panel = Panel(
         "The fewest operations without an order", "s, not to scale", "client", items, from_zero=False, has_time=False,
         most=float(len(clients)), names=[f"{moment:.3f}" for moment in moments], rows=clients,
     )  # fmt: skip
-    return Drawing([panel], keys, name, 0, [one.words for one in shades], "Operations", INCHES)
+    return Drawing([panel], keys, name, 0, [shade.words for shade in shades], "Operations", INCHES)
 
 
 def look_at_operations(options: LookOptions, name: str, faults: Optional[str] = None) -> int:
-    """Judges the operations, and draws the fewest without an order; returns the status."""
+    """Judges the operations in a file, and draws the fewest without an order; returns the exit status. `faults` is the file of a
+    net whose faults shade the picture."""
     refuse_inputs(options.outputs, options.source)
     shades = shades_of(faults) if faults else []
     findings = Findings()
     fewest = check_operations(name, read_bytes(name, MOST_TEXT), options.model or "", findings)
-    for output in options.o if fewest else []:
-        with written(output) as place:
-            save([operations_drawing(Path(name).name, fewest, shades)], str(place), format_of(output).kind, options.title)
     if not fewest:
         tell(f"{name}: nothing to draw, so {options.o[0]} wasn't written")
+        return findings.status
+    for output in options.o:
+        with written(output) as place:
+            save([operations_drawing(Path(name).name, fewest, shades)], str(place), format_of(output).kind, options.title)
     return findings.status

@@ -15,15 +15,16 @@ from hinge.replays.remarks import LEAST_LATE
 from hinge.replays.replay import EVENT_NAMES
 
 COLORS = ("#0072b2", "#d55e00", "#009e73", "#cc79a7", "#56b4e9", "#e69f00", "#882255", "#999933")
-RESTS = ("#c4c4c4", "#8f8f8f", "#dcdcdc", "#a9a9a9")  # what stands for several flows, by its pipe
+RESTS = ("#c4c4c4", "#8f8f8f", "#dcdcdc", "#a9a9a9")  # the colors of lines that stand for a pipe's small flows
 PIPES = (("#000000", SOLID), ("#808080", MIXED), ("#404040", DASHED), ("#a0a0a0", DENSE))
 CAUSE_COLORS = {"lost": "#b8b8b8", "full": "#3f3f3f", "none": "#7a7a7a"}
-MOST_FLOWS = PICTURE_FLOWS  # each with a color of its own
-MOST_ABOVE = 2  # a line of more than so many times the greatest value is told, not drawn
-MOST_DOTS = 2_000  # of a flow's delays; more are drawn as a band
-MOST_DOTS_IN_ALL, FEWEST_OF_BAND = 4_000, 400  # of all flows; above that each flow with so many is a band
+MOST_FLOWS = PICTURE_FLOWS  # the flows with separate colors
+MOST_ABOVE = 2  # a line above this multiple of the greatest value becomes a note
+MOST_DOTS = 2_000  # a flow with more delays is drawn as a band
+MOST_DOTS_IN_ALL = 4_000  # if all flows have more delays together, a flow with more than FEWEST_OF_BAND is a band
+FEWEST_OF_BAND = 400
 MOST_DROPS_TOLD = 2_000
-MOST_COUNTS = 20_000  # of a queue's lengths that are drawn
+MOST_COUNTS = 20_000  # the drawn points of a queue's length
 LOW, MIDDLE, HIGH = 5, 50, 95  # percentiles of a band
 BANDS_A_STEP = 5  # since a delay changes faster than a rate
 
@@ -34,7 +35,9 @@ def time_of(step_ns: int) -> str:
 
 def range_of(values: Reals, unit: str) -> str:
     low, high = np.nanmin(values), np.nanmax(values)
-    return f"{low:g} {unit}" if low == high else f"{low:g} to {high:g} {unit}"
+    if low == high:
+        return f"{low:g} {unit}"
+    return f"{low:g} to {high:g} {unit}"
 
 
 def percentiles(moments: Integers, values: Reals, steps: Steps) -> Reals:
@@ -52,7 +55,7 @@ def percentiles(moments: Integers, values: Reals, steps: Steps) -> Reals:
 
 
 def late_panel(title: str, lines: list[Line]) -> Optional[Panel]:
-    """Returns the panel of late hosts, if any."""
+    """Returns the panel with the lateness of hosts, or None if no host was noticeably late."""
     is_late = any(line.y.max(initial=0) >= LEAST_LATE for line in lines)
     return Panel(title, "s", "ms", [*lines]) if is_late else None
 
@@ -61,7 +64,8 @@ class Panels:
     """Creates the panels of a replay."""
 
     def __init__(self, flows_in_time: Series) -> None:
-        self.found, self.step = flows_in_time, time_of(flows_in_time.steps.length)
+        self.series = flows_in_time
+        self.step = time_of(flows_in_time.steps.length)
         self.of_bands = Steps(max(flows_in_time.steps.length // BANDS_A_STEP, 1), flows_in_time.steps.span)
         rests = [number for number, flow in enumerate(flows_in_time.flows) if flow.is_rest]
         self.colors = [
@@ -74,20 +78,24 @@ class Panels:
 
     def flows(self) -> Iterator[tuple[int, Flow, str]]:
         """Yields the flows with numbers and colors, the largest on top and the rest at the bottom."""
-        order = sorted(enumerate(self.found.flows), key=lambda numbering: (not numbering[1].is_rest, -numbering[0]))
-        for number, flow in order:
+        pairs = list(enumerate(self.series.flows))[::-1]
+        rests = [(number, flow) for number, flow in pairs if flow.is_rest]
+        others = [(number, flow) for number, flow in pairs if not flow.is_rest]
+        for number, flow in rests + others:
             yield number, flow, self.colors[number]
 
     def greatest(self, which: str) -> float:
         """Returns the greatest rate, `carried` or `offered`, of a flow or a pipe's flows together."""
-        columns = [getattr(flow, which) for flow in self.found.flows] + list(getattr(self.found, which).values())
+        columns = [getattr(flow, which) for flow in self.series.flows] + list(getattr(self.series, which).values())
         return max((float(column.max(initial=0)) for column in columns), default=0)
 
     def rates(self, which: str, title: str) -> Panel:
         """Returns the panel of the rates, `carried` or `offered`, of each flow and each pipe, with the capacities."""
-        result, notes = self.found, []
-        edges, most = result.steps.edges, self.greatest(which)
+        result = self.series
+        edges = result.steps.edges
+        most = self.greatest(which)
         items: list[Item] = []
+        notes = list[str]()
         for name, total in getattr(result, which).items():
             color, dash = self.pipes[name]
             items.append(Line(f"all of {name}", edges, np.append(total, total[-1]), color, width=2.2, dash=dash, is_behind=True))
@@ -111,16 +119,19 @@ class Panels:
         return self.rates("offered", "Offered load")
 
     def band(self, number: int, flow: Flow, color: str) -> Band:
-        result, out = self.found, flow.out_places
+        result, out = self.series, flow.out_places
         low, middle, high = percentiles(result.replay.at[out], result.replay.took[out] / NS_PER_MS, self.of_bands)
         return Band(flow.name, self.of_bands.edges, low, middle, high, color, number)
 
     def delays(self) -> Optional[Panel]:
         """Returns the panel of delays, with a point for each packet, or a band if there are too many."""
-        result, items, has_band = self.found, list[Item](), False
+        result = self.series
+        items = list[Item]()
+        has_band = False
         is_crowded = sum(len(flow.out_places) for flow in result.flows) > MOST_DOTS_IN_ALL
+        most_dots = FEWEST_OF_BAND if is_crowded else MOST_DOTS
         for number, flow, color in self.flows():
-            if len(flow.out_places) > (FEWEST_OF_BAND if is_crowded else MOST_DOTS):
+            if len(flow.out_places) > most_dots:
                 items.append(self.band(number, flow, color))
                 has_band = True
             elif len(flow.out_places):
@@ -130,19 +141,19 @@ class Panels:
             return None
         band = f"band: {LOW} to {HIGH} of 100 packets sent in {time_of(self.of_bands.length)}; line: the median"
         notes = [band] if has_band else []
-        (lines, above) = self.bounds()
+        lines, above = self.bounds()
         return Panel("One-way delay", "sent at, s", "ms", items + lines, notes + above, from_zero=False)
 
     def bounds(self) -> tuple[list[Item], list[str]]:
         """Returns the proved bound on each pipe's delay: a line, or a note if it is far above the delays."""
         lines, notes = list[Item](), list[str]()
-        for one in self.found.bounds:
-            limit = one.bound.due_ns / NS_PER_MS
-            most = (one.delay_ns or 0) / NS_PER_MS
-            text = f"bound on the delay of {one.name}: {limit:,.6g} ms"
+        for pipe in self.series.bounds:
+            limit = pipe.bound.due_ns / NS_PER_MS
+            most = (pipe.delay_ns or 0) / NS_PER_MS
+            text = f"bound on the delay of {pipe.name}: {limit:,.6g} ms"
             if limit <= MOST_ABOVE * most:
-                ends = np.array([0, self.found.steps.span]) / NS_PER_S
-                color, _ = self.pipes[one.name]
+                ends = np.array([0, self.series.steps.span]) / NS_PER_S
+                color, _ = self.pipes[pipe.name]
                 lines.append(Line(text, ends, np.array([limit, limit]), color, width=0.9, dash=DASHED, is_behind=True))
             else:
                 notes.append(f"{text}; the greatest is {most:,.6g} ms" if most else text)
@@ -158,32 +169,34 @@ class Panels:
     def waiting(self) -> Optional[Panel]:
         """Returns the panel with the packets waiting for each pipe or queue, with its limit."""
         items, notes = list[Item](), list[str]()
-        for name, (moments, lengths) in self.found.waiting.items():
+        for name, (moments, lengths) in self.series.waiting.items():
             places = spread(np.arange(len(moments)), MOST_COUNTS)
             most = int(lengths.max(initial=0))
             if not most:
                 continue
             color, _ = self.pipes[name]
             items.append(Line(f"{name}, at most {most:,}", moments[places], lengths[places], color, width=0.8))
-            limit = self.found.limits.get(name)
+            limit = self.series.limits.get(name)
             if limit is None:
                 continue
             if limit.numbers is not None and np.nanmax(limit.numbers) <= MOST_ABOVE * most:
                 text = f"limit of {name}: {limit.told}"
                 numbers = limit.numbers.astype(float)
                 items.append(Line(text, limit.moments, numbers, color, width=1.2, dash=DASHED, is_behind=True))
+            elif limit.numbers is not None:
+                notes.append(f"limit of {name}: {limit.told}, above this panel")
             else:
-                notes.append(f"limit of {name}: {limit.told}" + (", above this panel" if limit.numbers is not None else ""))
+                notes.append(f"limit of {name}: {limit.told}")
         return Panel("Packets that wait", "s", "packets", items, notes, is_whole=True) if items else None
 
     def bars(self, name: str, counts: Integers, color: str, flow: Optional[int] = None) -> Bars:
-        steps = self.found.steps
+        steps = self.series.steps
         return Bars(name, steps.begins, steps.length / NS_PER_S, counts, color, flow)
 
     def drops(self) -> Optional[Panel]:
         items: list[Item] = [
             self.bars(f"{cause} {int(counts.sum()):,}", counts, CAUSE_COLORS[cause])
-            for cause, counts in self.found.drops.items()
+            for cause, counts in self.series.drops.items()
             if counts.any()
         ]
         return Panel(f"Drops by cause, packets per {self.step}", "s", "packets", items, is_whole=True) if items else None
@@ -198,21 +211,24 @@ class Panels:
         """Returns the panel with a live host's lateness and unread packets in each second: delays that no link caused."""
         dashes = {"late": SOLID, "unread": DOTTED}
         items = list[Line]()
-        for number, (way, of_way) in enumerate(self.found.lateness.items()):
+        for number, (way, of_way) in enumerate(self.series.lateness.items()):
             for which, (moments, ms) in of_way.items():
-                x, y = np.append(0, moments), np.append(ms, ms[-1:])  # each is of the time up to its moment
-                text, (color, _) = f"{way}: {which}, at most {ms.max(initial=0):.3g} ms", PIPES[number % 2]
+                x, y = np.append(0, moments), np.append(ms, ms[-1:])  # each value is the maximum up to its moment
+                text = f"{way}: {which}, at most {ms.max(initial=0):.3g} ms"
+                color, _ = PIPES[number % 2]
                 items.append(Line(text, x, y, color, width=1, dash=dashes[which]))
         return late_panel("The host's lateness, the most of each second", items)
 
     def drop_points(self) -> list[Points]:
         """Returns a mark for each dropped packet, at a delay of 0."""
-        items, marks = self.found, []
+        marks = list[Points]()
         for cause in CAUSES:
-            places = spread(np.flatnonzero(items.replay.event == cause), MOST_DROPS_TOLD)
+            places = spread(np.flatnonzero(self.series.replay.event == cause), MOST_DROPS_TOLD)
             if len(places):
-                name, zeros = EVENT_NAMES[cause], np.zeros(len(places))
-                marks.append(Points(f"dropped: {name}", places, items.sent_at(places), zeros, CAUSE_COLORS[name], is_cross=True))
+                name = EVENT_NAMES[cause]
+                moments = self.series.sent_at(places)
+                zeros = np.zeros(len(places))
+                marks.append(Points(f"dropped: {name}", places, moments, zeros, CAUSE_COLORS[name], is_cross=True))
         return marks
 
     def key(self, number: int, flow: Flow) -> Key:
@@ -228,5 +244,6 @@ def drawing(flows_in_time: Series, below: Optional[list[str]] = None) -> Drawing
     """Returns a replay's picture; `below` is the text under the picture."""
     panels = Panels(flows_in_time)
     keys = [panels.key(number, flow) for number, flow in enumerate(flows_in_time.flows)]
-    name, span = Path(flows_in_time.replay.path).name, flows_in_time.steps.span / NS_PER_S
+    name = Path(flows_in_time.replay.path).name
+    span = flows_in_time.steps.span / NS_PER_S
     return Drawing([make(panels) for make in ORDER], keys, name, span, below or [])

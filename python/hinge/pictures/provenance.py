@@ -13,21 +13,27 @@ from hinge.loss import KEPT, LOST
 from hinge.replays.replay import Packets
 from hinge.version import version
 
-MOST_LINES = 12  # of a configuration
-BY_MODEL = re.compile(r"\bplr 0?\.50*(?!\S)")  # the rate under which the words of a model decide
+MOST_LINES = 12  # the most lines of a configuration in the text
+BY_MODEL = re.compile(r"\bplr 0?\.50*(?!\S)")  # the loss rate with which a model's words decide about losses
 
 
 def provenance(lines: Sequence[str], files: Sequence[str], seed: Optional[str] = None) -> list[str]:
     """Returns the lines of the configuration, the files, the seed if known, and the version."""
-    view = list(lines[:MOST_LINES]) + ([f"and {len(lines) - MOST_LINES} lines more"] if len(lines) > MOST_LINES else [])
+    view = list(lines[:MOST_LINES])
+    if len(lines) > MOST_LINES:
+        view.append(f"and {len(lines) - MOST_LINES} lines more")
     names = printable(", ".join(Path(name).name for name in files))
-    product = "; ".join([f"of {names}", *([f"seed {seed}"] if seed else []), f"hinge {version()}"])
+    origin = [f"of {names}", f"hinge {version()}"]
+    if seed:
+        origin.insert(1, f"seed {seed}")
+    product = "; ".join(origin)
     return ["; ".join(view), product] if view else [product]
 
 
 def model_of(packets: Packets, target: tuple[str, int]) -> str:
     """Returns a loss model's effect on a target's packets; an empty text if random words decided."""
-    is_own = packets.target == (packets.targets.index(target) if target in packets.targets else -1)
+    number = packets.targets.index(target) if target in packets.targets else -1
+    is_own = packets.target == number
     words = packets.word[is_own] & KEPT
     is_lost = words == LOST
     if not len(words) or not (is_lost | (words == KEPT)).all():

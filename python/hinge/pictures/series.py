@@ -1,13 +1,12 @@
-"""The series that a picture draws, of each flow: rates, delays, their distribution, and the drops by cause."""
+"""The series that a picture draws for each flow: rates, delays, their distribution, and the drops with their causes."""
 
 from __future__ import annotations
 
-from dataclasses import dataclass, field, replace
-from typing import Iterable, Iterator, Optional
+from dataclasses import dataclass, field
+from typing import Iterable, Optional
 
-from hinge.arguments import PICTURE_FLOWS
-from hinge.border.terminal import several
 from hinge.lazy import Integers, Reals, np
+from hinge.pictures.pipe_places import MOST_PIPES, named_places, pipes_of, shared
 from hinge.pictures.settings import A_FLOW, Limits, capacities, limits, pipe_names
 from hinge.replays.bounds import Bounded
 from hinge.replays.groups import Groups, group
@@ -15,12 +14,12 @@ from hinge.replays.remarks import Lateness
 from hinge.replays.replay import EVENT_NAMES, FULL, HELD, LOST, NONE, OUT, Replay
 
 NS_PER_S, NS_PER_MS = 10**9, 10**6
-STEPS_WANTED, STEPS_OF_SHORT = 200, 50  # of a rate over a replay
+STEPS_WANTED = 200  # the number of a rate's steps over a replay
+STEPS_OF_SHORT = 50  # the number of steps over a short replay
 FEWEST_STEPS = 20
 PACKETS_A_STEP = 40  # so that one packet more or less in a step doesn't show
-PACKETS_OF_LARGEST = 10  # of them those of the largest flow
-MOST_RANKS = 2_000  # of a distribution
-MOST_PIPES = PICTURE_FLOWS  # each with its lines
+PACKETS_OF_LARGEST = 10  # the packets of the largest flow in a step
+MOST_RANKS = 2_000  # the points of a distribution
 CAUSES = (LOST, FULL, NONE)
 
 
@@ -89,11 +88,11 @@ class Series:
     steps: Steps
     flows: list[Flow]
     drops: dict[str, Integers]
-    # of each link's queue: moments in s, and the packets that wait from there on
+    # for each link's queue: moments in s, and the number of waiting packets from each moment on
     waiting: dict[str, tuple[Reals, Reals]]
-    carried: dict[str, Reals]  # by each pipe that several flows share, in all
-    offered: dict[str, Reals]  # to each of them
-    capacities: dict[str, tuple[Reals, Reals]]  # of each pipe: moments in s, and Mbit/s from there on
+    carried: dict[str, Reals]  # the total rate from each pipe that several flows share
+    offered: dict[str, Reals]  # the total rate to each of these pipes
+    capacities: dict[str, tuple[Reals, Reals]]  # for each pipe: moments in s, and Mbit/s from each moment on
     limits: dict[str, Limits]  # of each pipe and queue
     lateness: Lateness = field(default_factory=dict)
     bounds: list[Bounded] = field(default_factory=list)  # on the delay of pipes
@@ -106,20 +105,20 @@ class Series:
 
 
 def rounded_up(least: int) -> int:
-    """1, 2 or 5 times a power of ten, at least so much and 1."""
+    """Returns the smallest of the numbers 1, 2, 5, 10, 20, 50 and so on that is at least `least`."""
     power: int = 10 ** (len(str(max(least, 1))) - 1)
     return next(power * factor for factor in (1, 2, 5, 10) if power * factor >= least)
 
 
 def rounded_down(most: int) -> int:
-    """1, 2 or 5 times a power of ten, at most so much, and at least 1."""
+    """Returns the greatest of the numbers 1, 2, 5, 10, 20, 50 and so on that is at most `most`; 1 if there is none."""
     power: int = 10 ** (len(str(max(most, 1))) - 1)
     return next((power * factor for factor in (5, 2) if power * factor <= most), power)
 
 
 def round_step(span: int) -> int:
-    """Returns a round step in ns: a second in a span from 20 to 200 s, as rates in shorter steps are combs, and otherwise a step
-    that gives about the desired number."""
+    """Returns a round step in ns. A span from 20 to 200 s gets steps of a second, since rates in shorter steps look like combs.
+    Other spans get about STEPS_WANTED steps, or STEPS_OF_SHORT below 20 s."""
     if span < FEWEST_STEPS * NS_PER_S:
         return rounded_up(span // STEPS_OF_SHORT)
     return max(rounded_up(span // STEPS_WANTED), NS_PER_S)
@@ -138,22 +137,30 @@ def fitting_step(replays: list[Replay], span: int) -> int:
     queue, and from the largest flow, if there are that many."""
     step = round_step(span)
     main = [places_of_main_target(replay) for replay in replays]
-    busy = sum(len(runs_of(np.sort(replay.due[places] // step, kind="stable"))) for replay, places in zip(replays, main))
-    largest = sum(int(np.bincount(replay.packets.five_tuple[places], minlength=1).max()) for replay, places in zip(replays, main))
+    busy = 0  # the number of nonempty steps
+    largest = 0  # the number of packets of the largest flows
+    for replay, places in zip(replays, main):
+        busy += len(runs_of(np.sort(replay.due[places] // step, kind="stable")))
+        largest += int(np.bincount(replay.packets.five_tuple[places], minlength=1).max())
     if not busy:
         return step
-    names = max(step * PACKETS_A_STEP * busy // sum(map(len, main)), step * PACKETS_OF_LARGEST * busy // largest)
-    return max(step, min(rounded_up(names), rounded_down(span // FEWEST_STEPS)))
+    step_for_all = step * PACKETS_A_STEP * busy // sum(map(len, main))
+    step_for_largest = step * PACKETS_OF_LARGEST * busy // largest
+    step_for_packets = rounded_up(max(step_for_all, step_for_largest))
+    return max(step, min(step_for_packets, rounded_down(span // FEWEST_STEPS)))
 
 
 def runs_of(ordered: Integers) -> Integers:
     """Returns the end of each run with equal numbers."""
-    return np.flatnonzero(np.append(ordered[1:] != ordered[:-1], [True] if len(ordered) > 0 else []))
+    if not len(ordered):
+        return np.zeros(0, np.int64)
+    return np.flatnonzero(np.append(ordered[1:] != ordered[:-1], True))
 
 
 def span_of(replays: list[Replay]) -> int:
     """Returns the ns until the last packet was sent or left."""
-    return max((int(max(replay.at.max(), replay.due.max())) for replay in replays if len(replay.at)), default=0)
+    ends = (max(replay.at.max(), replay.due.max()) for replay in replays if len(replay.at))
+    return int(max(ends, default=0))
 
 
 def spread(places: Integers, most: int) -> Integers:
@@ -178,7 +185,7 @@ def thinned(places: Integers, replay: Replay, most: int) -> Integers:
 
 
 def distribution(took: Integers) -> tuple[Reals, Reals]:
-    """Parts of the packets, and the delays in ms that so many don't exceed."""
+    """Returns fractions of the packets, and for each the delay in ms that this fraction doesn't exceed."""
     sequence = np.sort(took)
     if not len(sequence):
         return np.zeros(0), np.zeros(0)
@@ -187,7 +194,7 @@ def distribution(took: Integers) -> tuple[Reals, Reals]:
 
 
 def waiting(replay: Replay, places: Integers) -> tuple[Reals, Reals]:
-    """Returns the number of these packets waiting for transmission, at each change."""
+    """Returns the moments in s at which the number of waiting packets changes, and the number from each moment on."""
     connection = places[(replay.event[places] == OUT) | (replay.event[places] == HELD)]
     start = connection[replay.event[connection] == OUT]
     moments = np.concatenate((replay.at[connection], replay.start[start]))
@@ -195,42 +202,6 @@ def waiting(replay: Replay, places: Integers) -> tuple[Reals, Reals]:
     order = np.argsort(moments, kind="stable")  # which is done at once where both parts have an order
     ends = runs_of(moments[order])
     return moments[order][ends] / NS_PER_S, np.cumsum(ups[order])[ends].astype(float)
-
-
-def pipes_of(replay: Replay, known: dict[str, str]) -> Groups:
-    """Returns the rows in groups by pipe, or by queue if its pipe is unknown; a picture sums up all but the largest."""
-    targets = group(replay, "target")
-    names = [known.get(name, name) for name in targets.names]
-    numbers = {name: number for number, name in enumerate(dict.fromkeys(names))}
-    pipes = Groups(np.array([numbers[name] for name in names], np.int64)[targets.of], [*numbers])
-    if len(numbers) <= MOST_PIPES:
-        return pipes
-    *large, others = (pipes := pipes.largest(replay.packets.length, MOST_PIPES)).names
-    return replace(pipes, names=[*large, others.replace("others", "other pipes")])
-
-
-def shared(replay: Replay, groups: Groups, pipes: Groups) -> dict[str, Integers]:
-    """Returns the places of the packets for each pipe, except if all belong to one drawn flow."""
-    rest = len(groups.names) - 1 if groups.has_rest else -1  # which stands for several
-    return {
-        name: places
-        for name, places in pipes.places()
-        if len(column := np.flatnonzero(np.bincount(groups.of[places]))) > 1 or rest in column and replay.is_out[places].any()
-    }
-
-
-def named_places(groups: Groups, pipes: Groups) -> Iterator[tuple[str, Integers, bool]]:
-    """Yields each flow's places in a single pipe or queue, and whether the flow stands for several."""
-    last = len(groups.names) - 1 if groups.has_rest else -1
-    for number, (name, places) in enumerate(groups.places()):
-        if number != last:
-            yield name, places, False
-            continue
-        is_there = groups.of == last
-        parts = {pipe: there[is_there[there]] for pipe, there in pipes.places() if is_there[there].any()}
-        for pipe, there in parts.items():
-            count = np.count_nonzero(np.bincount(groups.each[there])) if groups.each is not None else 0
-            yield (f"{several(count, 'other')} of {pipe}" if len(parts) > 1 else name), there, True
 
 
 def offered(replay: Replay, places: Integers, steps: Steps) -> Reals:
@@ -245,8 +216,18 @@ def carried(replay: Replay, places: Integers, steps: Steps) -> Reals:
 def flow_series(replay: Replay, name: str, places: Integers, is_rest: bool, steps: Steps) -> Flow:
     out = places[replay.is_out[places]]
     drops = places[np.isin(replay.event[places], CAUSES)]
-    rates = offered(replay, places, steps), carried(replay, places, steps)
-    return Flow(name, is_rest, len(places), *rates, out, *distribution(replay.took[out]), steps.counts(replay.at[drops]))
+    ranks, delays = distribution(replay.took[out])
+    return Flow(
+        name,
+        is_rest,
+        packets=len(places),
+        offered=offered(replay, places, steps),
+        carried=carried(replay, places, steps),
+        out_places=out,
+        ranks=ranks,
+        delays=delays,
+        drops=steps.counts(replay.at[drops]),
+    )
 
 
 def series(
@@ -258,18 +239,30 @@ def series(
     lateness: Optional[Lateness] = None,
     bounds: Iterable[Bounded] = (),
 ) -> Series:
-    steps, changes = Steps(step_ns, span), list(changes)
+    """Returns the series of a replay in steps of `step_ns`. `changes` are the configuration's commands with their moments."""
+    steps = Steps(step_ns, span)
+    changes = list(changes)
     pipes = pipes_of(replay, pipe_names(changes))
     queues = group(replay, "target")
-    queues = queues.largest(replay.packets.length, MOST_PIPES) if len(queues.names) > MOST_PIPES else queues
+    if len(queues.names) > MOST_PIPES:
+        queues = queues.largest(replay.packets.length, MOST_PIPES)
     flows = [flow_series(replay, name, places, is_rest, steps) for name, places, is_rest in named_places(groups, pipes)]
     drops = {EVENT_NAMES[cause]: steps.counts(replay.at[replay.event == cause]) for cause in CAUSES}
     waits = {name: waiting(replay, places) for name, places in queues.places()}
     common = shared(replay, groups, pipes)
     rates = capacities(changes, span)
-    rates_out = {name: carried(replay, places, steps) for name, places in common.items()}
-    rates_in = {name: offered(replay, places, steps) for name, places in common.items()}
     if len(rates) > MOST_PIPES:
         rates = {name: points for name, points in rates.items() if name.removesuffix(A_FLOW) in pipes.names}
-    settings = rates, limits(changes, span), lateness or {}, [one for one in bounds if one.name in pipes.names]
-    return Series(replay, steps, flows, drops, waits, rates_out, rates_in, *settings)
+    return Series(
+        replay,
+        steps,
+        flows,
+        drops,
+        waiting=waits,
+        carried={name: carried(replay, places, steps) for name, places in common.items()},
+        offered={name: offered(replay, places, steps) for name, places in common.items()},
+        capacities=rates,
+        limits=limits(changes, span),
+        lateness=lateness or {},
+        bounds=[pipe for pipe in bounds if pipe.name in pipes.names],
+    )

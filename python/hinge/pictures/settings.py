@@ -29,9 +29,15 @@ def capacities(changes: Iterable[tuple[int, str]], span: int) -> dict[str, tuple
         kind, number, setting = setting_of(text)
         if kind == "pipe":
             rate = setting.bw / 10**6 if isinstance(setting, Pipe) and setting.bw else np.nan
-            table.setdefault(f"pipe {number}{A_FLOW * ('mask' in text.split())}", []).append((moment, rate))
-    columns = {name: np.array([*points, (max(span, points[-1][0]), points[-1][1])]).T for name, points in table.items()}
-    return {name: (moments / NS_PER_S, rates) for name, (moments, rates) in columns.items() if not np.isnan(rates).all()}
+            suffix = A_FLOW if "mask" in text.split() else ""
+            table.setdefault(f"pipe {number}{suffix}", []).append((moment, rate))
+    columns = dict[str, tuple[Reals, Reals]]()
+    for name, points in table.items():
+        last, rate = points[-1]
+        moments, rates = np.array([*points, (max(span, last), rate)]).T
+        if not np.isnan(rates).all():
+            columns[name] = moments / NS_PER_S, rates
+    return columns
 
 
 def limits(changes: Iterable[tuple[int, str]], span: int) -> dict[str, Limits]:
@@ -45,11 +51,13 @@ def limits(changes: Iterable[tuple[int, str]], span: int) -> dict[str, Limits]:
 
 
 def limits_of(points: list[tuple[int, Limit, bool]], span: int) -> Limits:
+    """Returns the limits of a queue from moments in ns, each with its limit and whether each flow has a separate queue."""
     last, limit, has_mask = points[-1]
     moments = np.array([*(moment for moment, _, _ in points), max(span, last)]) / NS_PER_S
     each = ", each flow" if has_mask else ""
     if any(limit.slots is None for _, limit, _ in points):
-        return Limits(moments, None, f"{limit.kbytes} Kbytes{each}" if limit.kbytes else f"{limit.slots:,} packets{each}")
+        text = f"{limit.kbytes} Kbytes" if limit.kbytes else f"{limit.slots:,} packets"
+        return Limits(moments, None, f"{text}{each}")
     numbers = np.array([*(limit.slots for _, limit, _ in points), limit.slots])
     text = f"{numbers.min():,}" if numbers.min() == numbers.max() else f"{numbers.min():,} to {numbers.max():,}"
     return Limits(moments, numbers, f"{text} packets{each}")

@@ -29,7 +29,7 @@ def head(name: str) -> tuple[str, str]:
 
 
 def blocks(columns: list[list[str]], width: int) -> Iterator[list[list[str]]]:
-    """Yields the columns in blocks no wider than this, if possible; the first column begins each block."""
+    """Yields the columns in blocks of at most `width` letters, if possible. The first column begins each block."""
     first, *rest = columns
     block, letters = [first], len(first[0])
     for column in rest:
@@ -43,10 +43,10 @@ def blocks(columns: list[list[str]], width: int) -> Iterator[list[list[str]]]:
 
 def write_columns(columns: list[list[str]], texts: int, out: TextIO) -> None:
     """Writes the columns in blocks as wide as the terminal, or 80 columns. The first `texts` columns contain text."""
-    cells = [
-        [text.ljust(max(map(len, column))) if place < texts else text.rjust(max(map(len, column))) for text in column]
-        for place, column in enumerate(columns)
-    ]
+    cells = list[list[str]]()
+    for place, column in enumerate(columns):
+        widest = max(map(len, column))
+        cells.append([text.ljust(widest) if place < texts else text.rjust(widest) for text in column])
     width = shutil.get_terminal_size((WIDTH, 0)).columns if out.isatty() else WIDTH
     parts = (
         "\n".join(GAP.join(row).rstrip() for row in zip(*block) if any(text.strip() for text in row))
@@ -71,4 +71,4 @@ def write_bounds(bounds_of_pipes: list[Bounded], out: TextIO) -> None:
     """Writes the table of pipes, with the greatest observed wait and delay, and their bounds."""
     if bounds_of_pipes:
         out.write("\n")
-        write_columns(figure_columns([one.figures() for one in bounds_of_pipes]), 1, out)
+        write_columns(figure_columns([pipe.figures() for pipe in bounds_of_pipes]), 1, out)

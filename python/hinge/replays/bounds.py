@@ -1,4 +1,4 @@
-"""The proved bounds on the wait and the delay of each pipe's packets, and the greatest that a replay has."""
+"""The proved bounds on the wait and the delay of each pipe's packets, and the greatest wait and delay in a replay."""
 
 from __future__ import annotations
 
@@ -26,7 +26,7 @@ class Bounded:
         return f"pipe {self.bound.pipe}"
 
     def figures(self) -> dict[str, Optional[int]]:
-        """Returns the figures by name."""
+        """Returns all figures with their names."""
         return {
             "pipe": self.bound.pipe,
             "longest_bytes": self.bound.length,
@@ -42,7 +42,7 @@ def greatest(column: Integers) -> Optional[int]:
 
 
 def chosen(column: Integers, choice: Mask) -> Integers:
-    """Returns a column's chosen places; copies only if there are others."""
+    """Returns the chosen numbers of a column; copies the column only if some aren't chosen."""
     return column if choice.all() else column[choice]
 
 

@@ -1,4 +1,5 @@
-"""Packet files, reports, histories and indexes as columns, which hinge-packets reads; hosts/packets/columns.h says how it answers."""
+"""Packet files, reports, histories and indexes as columns of numbers. The program hinge-packets reads these files;
+hosts/packets/columns.h describes the program's answers."""
 
 from __future__ import annotations
 
@@ -8,17 +9,16 @@ from dataclasses import dataclass
 from itertools import islice
 from typing import Any, BinaryIO, Callable, Iterable, Iterator, NamedTuple, Optional, Sequence, TypeVar, Union, cast, overload
 
-from hinge.arguments import is_number
 from hinge.border.files import LONGEST_LINE, MOST_TABLE, Exceeded, opened, read_again, untrusted
 from hinge.border.programs import PIPE, Process, begun, how_ended
 from hinge.border.scratch import memory, unnamed
 from hinge.command import FILES, ROWS, Fault, working
 from hinge.lazy import Integers, few as np
 from hinge.program import packets
-from hinge.replays.record_lines import rows_of, without_quotes
+from hinge.replays.record_lines import FieldCheck, is_address, number_to, without_quotes, wrong_row
 
-GREATEST = 2**63 - 1  # of a number of 63 bits
-# the statuses with which it ends
+GREATEST = 2**63 - 1  # the greatest number of 63 bits
+# the exit statuses of hinge-packets
 QUOTED = 3
 FAULT = 4
 SYSTEM = (5, 6)
@@ -28,33 +28,21 @@ TOO_LONG = 10
 EVENTS = NONE, FULL, LOST, HELD, OUT = range(5)
 EVENT_NAMES = ("none", "full", "lost", "held", "out")
 KINDS = ("pipe", "queue")
-LAST_OF_LINKS = 60_000  # the pipes behind it are those of second passes
+LAST_OF_LINKS = 60_000  # the last number of a link's pipe; a host passes packets again to pipes with greater numbers
 Item = TypeVar("Item")
-OfWord = Callable[[str], bool]  # whether a field is of its kind
-Widths = dict[str, str]  # the numbers of each column, as numpy calls them
-
-
-def number_to(most: int, may_be_empty: bool = False) -> OfWord:
-    return lambda text: (is_number(text) and int(text) <= most) or (may_be_empty and not text)
-
-
-def is_address(text: str) -> bool:
-    parts = text.split(".")
-    is_one = len(parts) == 4 and 7 <= len(text) <= 15 and all(not part or is_number(part) for part in parts)
-    return is_one and max(int(part or "0") for part in parts) < 256
-
-
-NUMBER, FIELD = number_to(GREATEST), number_to(GREATEST, may_be_empty=True)
-PACKET_FIELDS: dict[str, OfWord] = {
+Widths = dict[str, str]  # numpy's name for the type of each column's numbers
+NUMBER = number_to(GREATEST)
+NUMBER_OR_EMPTY = number_to(GREATEST, may_be_empty=True)
+PACKET_FIELDS: dict[str, FieldCheck] = {
     **{"moment": NUMBER, "target": lambda text: text in KINDS, "number": NUMBER, "src": is_address, "dst": is_address},
     **{"proto": number_to(255), "sport": number_to(65535), "dport": number_to(65535)},
     **{"len": NUMBER, "word": number_to(2**32 - 1)},
 }
-REPORT_FIELDS: dict[str, OfWord] = {
-    **{"event": lambda text: text in EVENT_NAMES, "row": NUMBER, "flow": number_to(2**31 - 1, True), "packet": FIELD},
-    **{"at": NUMBER, "start": FIELD, "due": FIELD},
+REPORT_FIELDS: dict[str, FieldCheck] = {
+    **{"event": lambda text: text in EVENT_NAMES, "row": NUMBER, "flow": number_to(2**31 - 1, True), "packet": NUMBER_OR_EMPTY},
+    **{"at": NUMBER, "start": NUMBER_OR_EMPTY, "due": NUMBER_OR_EMPTY},
 }
-INDEX_FIELDS: dict[str, OfWord] = {"row": NUMBER, "frame": NUMBER}
+INDEX_FIELDS: dict[str, FieldCheck] = {"row": NUMBER, "frame": NUMBER}
 PACKET_COLUMNS: Widths = {"moment": "i8", "length": "i8", "target": "i4", "five_tuple": "i4", "word": "u4"}
 REPORT_COLUMNS: Widths = {"event": "i1", "flow": "i4", "packet": "i8", "at": "i8", "start": "i8", "due": "i8"}
 HISTORY_COLUMNS: Widths = {
@@ -68,7 +56,8 @@ class Lazily(Sequence[Item]):
     """A sequence whose items are created on access."""
 
     def __init__(self, size: int, item: Callable[[int], Item]) -> None:
-        self.size, self.item = size, item
+        self.size = size
+        self.item = item
 
     def __len__(self) -> int:
         return self.size
@@ -83,23 +72,26 @@ class Lazily(Sequence[Item]):
 
     def __getitem__(self, place: Union[int, slice]) -> Union[Item, Sequence[Item]]:
         if isinstance(place, slice):
-            return [self.item(one) for one in range(self.size)[place]]
+            return [self.item(number) for number in range(self.size)[place]]
         return self.item(range(self.size)[place])
 
 
 class Answer:
-    """The program's answer about a file."""
+    """Reads the answer of hinge-packets about a file. `refuse` raises the fault for an exit status and an error text."""
 
     def __init__(self, program: "Process[bytes]", refuse: Callable[[int, str], object]) -> None:
-        self.program, self.refuse = program, refuse
+        self.program = program
+        self.refuse = refuse
 
-    def fill(self, place: memoryview) -> None:
-        if cast(Any, self.program.stdout).readinto(place) < len(place):
+    def fill(self, space: memoryview) -> None:
+        """Fills the space with the next bytes of the answer. If the answer ended before, refuses with the program's error."""
+        if cast(Any, self.program.stdout).readinto(space) < len(space):
             text = cast(BinaryIO, self.program.stderr).read().decode(errors="replace")
             self.refuse(self.program.wait(), text)
 
     def bytes(self, size: int) -> memoryview:
-        self.fill(data := memory(size))
+        data = memory(size)
+        self.fill(data)
         return data
 
     def numbers(self, count: int) -> memoryview:
@@ -112,38 +104,30 @@ class Answer:
         return [(KINDS[item & 1], item >> 1) for item in self.numbers(count)]
 
 
-def located(name: str, path: str, fields: dict[str, OfWord], place: int) -> Fault:
-    """Returns the fault in a malformed row, with its line."""
-    with opened(path, MOST_TABLE) as file:
-        row = next(islice(rows_of(file), place + 1, None), None)
-    if row and len(row.fields) != len(fields):
-        return Fault(f"{name} line {row.line}: {len(row.fields)} fields in place of {len(fields)}", ROWS)
-    bad = ((field, text) for (field, is_one), text in zip(fields.items(), row.fields if row else ()) if not is_one(text))
-    fault = next((f"bad {field} {text!r}" for field, text in bad), None)
-    return Fault(f"{name} line {row.line}: {fault}" if row and fault else f"{name}: can't be read", ROWS)
-
-
 class Quoted(Exception):
-    """Raised for a file with quotes, which the program doesn't read in this way."""
+    """Raised if a file contains quotes, which the program doesn't read: `read_columns` then passes a copy without quotes."""
 
 
 @contextmanager
 def asked(source: BinaryIO, words: Iterable[str], refuse: Callable[[int, str], object]) -> Iterator[Answer]:
-    """Yields the program's answer about a file. An answer that was read whole counts if the program ended well."""
+    """Yields the program's answer about a file. Calls `refuse` if the caller read the whole answer, and the program failed."""
     large = {**os.environ, "GLIBC_TUNABLES": "glibc.malloc.hugetlb=1"}  # pages, with which long tables are read faster
     with begun([packets(), "columns", *words], stdin=source, stdout=PIPE, stderr=PIPE, env=large) as program:
         try:
             yield Answer(program, refuse)
-            if not cast(Any, program.stdout).read(1) and (status := program.wait()):
+            is_read = not cast(Any, program.stdout).read(1)
+            status = program.wait() if is_read else 0
+            if status:
                 refuse(status, "")
         finally:
             program.kill()
 
 
 def read_columns(
-    path: str, words: tuple[str, ...], fields: dict[str, OfWord], take: Callable[[Answer], Item], what: str = ""
+    path: str, words: tuple[str, ...], fields: dict[str, FieldCheck], take: Callable[[Answer], Item], what: str = ""
 ) -> Item:
-    """Returns columns from the program's answer about a file. Fault: the file changed, or the answer is malformed."""
+    """Returns the result of `take`, which reads the program's answer about a file. `words` are the program's arguments, and
+    `fields` the columns in the file's header. Fault: the header or a row is wrong, or the program failed."""
 
     def refuse(status: int, text: str) -> None:
         if status == QUOTED:
@@ -155,10 +139,11 @@ def read_columns(
         if status == BAD_HEADER:
             raise Fault(f"{path} line 1: the header isn't {','.join(fields)}", ROWS)
         if status == BAD_ROW:
-            raise located(path, file.path, fields, int(text))
+            raise wrong_row(path, file.path, fields, int(text))
         if status != FAULT:
             raise Fault(f"hinge-packets {how_ended(status)}", FILES)
-        raise Fault(f"{path}{'' if text.startswith(' ') else ': '}{text}", ROWS)
+        separator = "" if text.startswith(" ") else ": "
+        raise Fault(f"{path}{separator}{text}", ROWS)
 
     header = (",".join(fields),) if fields else ()
     words = (words[0], *header, *words[1:])
@@ -177,28 +162,30 @@ def read_columns(
 
 @dataclass(frozen=True)
 class Tuples:
-    """Five-tuples as two words each: addresses; protocol and ports."""
+    """Holds five-tuples as two 64-bit numbers each: the two addresses, and the protocol with the two ports."""
 
     words: memoryview
 
     def numbers(self, place: int) -> tuple[int, int, int, int, int]:
-        addresses, ports = self.words[2 * place] & (1 << 64) - 1, self.words[2 * place + 1]
+        addresses = self.words[2 * place] & (1 << 64) - 1
+        ports = self.words[2 * place + 1]
         return addresses >> 32, addresses & 0xFFFFFFFF, ports >> 48, ports >> 32 & 0xFFFF, ports >> 16 & 0xFFFF
 
     def number_of(self, addresses: int, ports: int) -> int:
-        """Returns the number of the five-tuple with these words, or -1."""
+        """Returns the number of the five-tuple with these two 64-bit numbers, or -1."""
         places = np.flatnonzero(np.frombuffer(self.words, "i8")[1::2] == ports).tolist()
         return next((place for place in places if self.words[2 * place] == addresses), -1)
 
     def columns(self) -> list[Integers]:
-        """Returns the addresses, protocols and ports of all flows."""
-        addresses, ports = (np.frombuffer(self.words, "i8")[place::2] for place in (0, 1))
+        """Returns a column each for the sources, destinations, protocols, source ports and destination ports."""
+        words = np.frombuffer(self.words, "i8")
+        addresses, ports = words[0::2], words[1::2]
         return [addresses >> 32 & 0xFFFFFFFF, addresses & 0xFFFFFFFF, ports >> 48, ports >> 32 & 0xFFFF, ports >> 16 & 0xFFFF]
 
 
 @dataclass(frozen=True)
 class Rows:
-    """Rows with their numbered targets and five-tuples."""
+    """Holds rows as columns. The columns `target` and `five_tuple` contain places in `targets` and `tuples`."""
 
     columns: dict[str, Integers]
     targets: list[tuple[str, int]]
@@ -218,7 +205,7 @@ def read_rows(path: str) -> Rows:
 
 
 class OfTarget(NamedTuple):
-    """A target's number of rows, and its first row's line."""
+    """Describes a target, which is a pipe or a queue, with the number of its rows and the first row's line."""
 
     kind: str
     number: int
@@ -246,15 +233,15 @@ def read_sums(path: str) -> Sums:
 
     def take(answer: Answer) -> Sums:
         rows, late, late_line, clock, first, longest, differ, word, count = answer.numbers(9)
-        of_targets = zip(answer.targets(count), answer.numbers(count), answer.numbers(count))
-        targets = [OfTarget(kind, number, its_rows, line) for (kind, number), its_rows, line in of_targets]
+        columns = zip(answer.targets(count), answer.numbers(count), answer.numbers(count))
+        targets = [OfTarget(kind, number, rows_of_target, line) for (kind, number), rows_of_target, line in columns]
         return Sums(rows, late, late_line, clock, first, longest, differ, word, targets)
 
     return read_columns(path, ("sums",), PACKET_FIELDS, take)
 
 
 def read_lines(path: str, rows: int) -> tuple[int, Optional[dict[str, Integers]]]:
-    """Returns a report's line count and columns; None instead of columns if the number of rows differs."""
+    """Returns the number of a report's lines, and its columns, or None instead if the packet file's number of rows differs."""
 
     def take(answer: Answer) -> tuple[int, Optional[dict[str, Integers]]]:
         count, is_whole = answer.numbers(2)
@@ -264,7 +251,7 @@ def read_lines(path: str, rows: int) -> tuple[int, Optional[dict[str, Integers]]
 
 
 def read_index(path: str) -> dict[str, Integers]:
-    """Returns the frame of each row."""
+    """Returns an index from `hinge packets` as two columns: rows, and the number of each row's frame in the capture."""
     widths = dict.fromkeys(INDEX_FIELDS, "i8")
     return read_columns(path, ("index",), INDEX_FIELDS, lambda answer: answer.columns(answer.numbers(1)[0], widths))
 
@@ -274,7 +261,7 @@ Change = tuple[int, int, str]  # the record of a command that was obeyed, the cl
 
 @dataclass(frozen=True)
 class Told:
-    """A history's content, which is steady if all commands precede the first submit."""
+    """Holds a history's content. The history is steady if all commands precede the first submit."""
 
     rows: Rows
     changes: list[Change]
@@ -295,11 +282,14 @@ def read_told(path: str, kind: str, widths: Widths) -> Told:
         kinds = answer.targets(targets)
         five = Tuples(answer.numbers(2 * tuples))
         lines = str(answer.bytes(changes), "utf-8", "replace").split("\n")[:-1]
-        told = [(int(record), int(moment), text) for record, moment, text in (line.split(",", 2) for line in lines)]
+        fields = (line.split(",", 2) for line in lines)
+        commands = [(int(record), int(moment), text) for record, moment, text in fields]
         text = bytes(answer.bytes(remarks))
-        is_steady = first < 0 or all(record < first for record, _, _ in told)
-        is_short = kind == "history" and is_steady and all(one == "queue" or number <= LAST_OF_LINKS for one, number in kinds)
-        columns = answer.columns(count, dict(islice(widths.items(), len(widths) - 2 * is_short)))
-        return Told(Rows(columns, kinds, five), told, text, records, is_steady, last_line, bool(is_whole))
+        is_steady = first < 0 or all(record < first for record, _, _ in commands)
+        has_one_pass = all(target == "queue" or number <= LAST_OF_LINKS for target, number in kinds)
+        is_short = kind == "history" and is_steady and has_one_pass
+        present = len(widths) - 2 if is_short else len(widths)
+        columns = answer.columns(count, dict(islice(widths.items(), present)))
+        return Told(Rows(columns, kinds, five), commands, text, records, is_steady, last_line, bool(is_whole))
 
     return read_columns(path, (kind,), {}, take)

@@ -11,12 +11,13 @@ from hinge.replays.replay import Replay
 
 
 def order_of(of: Integers, count: int) -> Integers:
-    """Returns the places sorted by their numbers, which are below `count`."""
-    return np.argsort(np.array(of, "u2") if count <= 1 << 16 else of, kind="stable")  # which is faster for short numbers
+    """Returns the places in the order of their numbers, which are below `count`."""
+    numbers = np.array(of, "u2") if count <= 1 << 16 else of  # short numbers are sorted faster
+    return np.argsort(numbers, kind="stable")
 
 
 def spans(of: Integers, count: int) -> list[slice]:
-    """Returns each number's span among the sorted places."""
+    """Returns the span of each number's places in `order_of`."""
     ends = np.cumsum(np.bincount(of, minlength=count)).tolist()
     return [slice(begin, end) for begin, end in zip([0, *ends], ends)]
 
@@ -35,8 +36,8 @@ class Groups:
 
     of: Integers
     names: Sequence[str]
-    has_rest: bool = False  # whether the last one stands for all smaller ones
-    each: Optional[Integers] = None  # the number of each row's group before the smaller ones were put together
+    has_rest: bool = False  # whether the last group stands for all smaller groups
+    each: Optional[Integers] = None  # the number of each row's group before the smaller groups were put together
 
     def places(self) -> Iterator[tuple[str, Integers]]:
         """Yields each group with its rows' places, in order."""
@@ -48,14 +49,16 @@ class Groups:
         there = np.flatnonzero(np.bincount(self.of))
         sums = np.bincount(self.of, weights=sizes)[there]
         least = np.partition(sums, [len(sums) - most])[len(sums) - most] if len(sums) > most else -1
-        above = np.flatnonzero(sums > least)  # which are few, so that no million of flows is sorted
-        part = above[np.argsort(-sums[above], kind="stable")]
-        part = there[np.append(part, np.flatnonzero(sums == least)[: most - len(above)])]
-        number = np.full(len(self.names), len(part))
-        rest = len(there) - len(part)
-        number[part] = np.arange(len(part))
-        names = [self.names[i] for i in part]
-        return Groups(number[self.of], names + ([f"{rest:,} others"] if rest else []), rest > 0, self.of)
+        above = np.flatnonzero(sums > least)  # only these few are sorted, and not a million flows
+        largest = above[np.argsort(-sums[above], kind="stable")]
+        largest = there[np.append(largest, np.flatnonzero(sums == least)[: most - len(above)])]
+        number = np.full(len(self.names), len(largest))
+        number[largest] = np.arange(len(largest))
+        names = [self.names[place] for place in largest]
+        rest = len(there) - len(largest)
+        if rest:
+            names.append(f"{rest:,} others")
+        return Groups(number[self.of], names, rest > 0, self.of)
 
 
 def group(replay: Replay, way: str) -> Groups:

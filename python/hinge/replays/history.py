@@ -18,12 +18,14 @@ from hinge.replays.remarks import addresses_in, flips_in, lateness_in, seed_in, 
 from hinge.replays.replay import Replay, packets_of
 from hinge.replays.source import Source, of_reports
 
-FRONT = 1 << 16  # bytes, in which the words of a run stand
+FRONT = 1 << 16  # bytes at the beginning of a history that contain the words of a run
 
 
 def spelled_by_program(path: str, changes: list[Change]) -> list[Change]:
     """Returns the commands in the program's spelling. Fault: a text is no command."""
-    verdicts = list(judged_lines([text.encode() for _, _, text in changes])) if changes else []
+    if not changes:
+        return []
+    verdicts = list(judged_lines([text.encode() for _, _, text in changes]))
     bad = next((verdict for verdict in verdicts if verdict.name == "bad"), None)
     if bad is not None or len(verdicts) != len(changes):
         text = changes[bad.line - 1][2] if bad is not None else ""
@@ -45,9 +47,17 @@ def read_history(path: str) -> Source:
         cut = None if history.is_whole else history.last_line
         own = {name: columns[name] for name in (*REPORT_COLUMNS, "submitted", "handed")}
         replay = Replay(path, packets, **own, flips=flips_in(history.remarks))
-        known = seed_in(history.remarks), lateness_in(history.remarks)
-        words = words_in(read_front(path, FRONT)) if os.path.isfile(path) else {}
-        return Source(replay, (path,), Configuration(path, changes), history.is_steady, True, cut, *known, words)
+        return Source(
+            replay,
+            (path,),
+            Configuration(path, changes),
+            is_steady=history.is_steady,
+            is_history=True,
+            cut=cut,
+            seed=seed_in(history.remarks),
+            lateness=lateness_in(history.remarks),
+            words=words_in(read_front(path, FRONT)) if os.path.isfile(path) else {},
+        )
 
 
 def read_sources(
@@ -57,8 +67,8 @@ def read_sources(
     most: int = 1,
     inputs: Sequence[Optional[str]] = (),
 ) -> list[Source]:
-    """Reads the sources of a command line: a history, or a packet file and at most a number of reports. Fault: the files are
-    others, or an output is also an input."""
+    """Reads the sources of a command line: a history, or a packet file with at most `most` reports. Fault: the files are of other
+    kinds or too many, or an output is also an input."""
     refuse_inputs(outputs, (*files, addresses_file(files[0]), config, *inputs))
     first, *reports = files
     if len(reports) > most:

@@ -1,8 +1,7 @@
-"""The configuration of each row: the link that carries the row, and the parts of its delay.
+"""The configuration for each row: the link that carries the row, and the parts of the row's delay.
 
-The configuration in force at a packet's arrival decides its fate. Its transmission and its delay are those in force when the
-transmission begins. Of a replay all lines come before the first packet.
-"""
+The configuration at a packet's arrival decides whether the packet is lost, dropped or accepted. The configuration at the
+transmission's start decides the bandwidth and the delay. In a replay, all lines precede the first packet."""
 
 from __future__ import annotations
 
@@ -19,13 +18,15 @@ from hinge.replays.groups import places_of
 from hinge.replays.replay import NONE, Replay
 
 NS_PER_MS, BITS_NS = 10**6, 8 * 10**9
-RECORD, MOMENT, UNKNOWN = 0, 1, -1
-WORDS_OF_NOBODY = 0, 255 << 48
+RECORD, MOMENT = 0, 1  # a spell's fields
+UNKNOWN = -1
+WORDS_OF_NOBODY = 0, 255 << 48  # the two 64-bit numbers of the five-tuple that marks an outage's packets
 BEFORE_ALL = -1  # the record of a command that came before each call
 
 
 class Spell(NamedTuple):
-    """What a pipe or queue is from a command on, whose record and moment in ns these are; no setting after a delete."""
+    """Describes a pipe or queue from a command on: the number of the command's record in the history, the command's moment in ns,
+    the pipe or queue, and the pipe's or queue's setting. After a delete there is no setting."""
 
     record: int
     moment: int
@@ -35,7 +36,7 @@ class Spell(NamedTuple):
 
 @dataclass(frozen=True)
 class Configuration:
-    """The commands in force, in the program's spelling, and from when on."""
+    """Holds the commands that configure pipes and queues, in the program's spelling, each with record and moment."""
 
     path: str
     changes: list[Change]
@@ -46,7 +47,7 @@ class Configuration:
 
     @cached_property
     def last(self) -> InForce:
-        """The pipes and queues that the lines leave in force, by number."""
+        """The pipes and queues after all lines, by number."""
         return InForce(self.lines)
 
     @cached_property
@@ -56,17 +57,19 @@ class Configuration:
 
     @cached_property
     def by_target(self) -> dict[tuple[str, int], list[int]]:
-        """The places of each pipe's and queue's spells."""
+        """The places of each pipe's and queue's spells in the list `spells`."""
         table: dict[tuple[str, int], list[int]] = {}
         for place, spell in enumerate(self.spells):
             table.setdefault(spell.target, []).append(place)
         return table
 
     def places(self, target: tuple[str, int], before: Integers, key: int) -> Integers:
-        """Returns the places of the spells in force before each of these records or moments, UNKNOWN before a configuration."""
+        """Returns the place of the target's spell before each record or moment in `before`; UNKNOWN if the target wasn't configured
+        then. `key` is RECORD or MOMENT."""
         own = self.by_target.get(target, [])
         begins = np.array([self.spells[place][:2][key] for place in own], np.int64)
-        table = np.array([UNKNOWN, *(place if self.spells[place].setting else UNKNOWN for place in own)], np.int64)
+        in_force = [place if self.spells[place].setting else UNKNOWN for place in own]
+        table = np.array([UNKNOWN, *in_force], np.int64)
         if len(before) and begins.max(initial=BEFORE_ALL) < before.min():
             return np.full(len(before), table[-1])
         found: Integers = table[np.searchsorted(begins, before, side="left")]
@@ -74,13 +77,14 @@ class Configuration:
 
     @cached_property
     def tables(self) -> dict[Callable[[Setting], int], Integers]:
-        """The spells' values, as far as a caller needed them."""
+        """A column of the spells' values for each function that a caller passed to `values`."""
         return {}
 
     def values(self, places: Integers, value: Callable[[Setting], int]) -> Integers:
-        """Returns a value from the spell at each place, 0 for UNKNOWN."""
+        """Returns a value, such as the bandwidth, from the spell at each place; 0 for UNKNOWN, and after a delete."""
         if value not in self.tables:
-            self.tables[value] = np.array([*(value(spell.setting) if spell.setting else 0 for spell in self.spells), 0], np.int64)
+            numbers = [value(spell.setting) if spell.setting else 0 for spell in self.spells]
+            self.tables[value] = np.array([*numbers, 0], np.int64)  # the last number is that of UNKNOWN, which is -1
         found: Integers = self.tables[value][places]
         return found
 
@@ -102,7 +106,7 @@ def bandwidth_of(setting: Setting) -> int:
 
 
 def delay_of(setting: Setting) -> int:
-    """In ns."""
+    """Returns a pipe's delay in ns, or 0 for a queue."""
     return setting.delay * NS_PER_MS if isinstance(setting, Pipe) else 0
 
 
@@ -112,62 +116,70 @@ def loss_of(setting: Setting) -> int:
 
 @dataclass(frozen=True)
 class Parts:
-    """A replay with its configuration: for each row that left, waited + transmission + delay + behind is the total time."""
+    """Splits the time for each row that left into four parts: waiting, transmission, delay, and the time that the row stayed behind
+    the previous row, if the link's delay became shorter."""
 
     replay: Replay
     configuration: Configuration
 
     @cached_property
     def own(self) -> Integers:
-        """The spell that decided each row, UNKNOWN for targets without a configuration."""
+        """The place of the spell that decided each row's fate; UNKNOWN if the row's target wasn't configured."""
         packets = self.replay.packets
-        found = np.full(len(packets), UNKNOWN, np.int64)
+        spell_of_row = np.full(len(packets), UNKNOWN, np.int64)
         for target, rows in zip(packets.targets, places_of(packets.target, len(packets.targets))):
-            found[rows] = self.configuration.places(target, self.replay.submitted[rows], RECORD)
-        return found
+            spell_of_row[rows] = self.configuration.places(target, self.replay.submitted[rows], RECORD)
+        return spell_of_row
 
     @cached_property
     def pipe(self) -> Integers:
-        """The number of the pipe that carries each row, 0 for none."""
+        """The number of the pipe that carries each row, or 0 without a pipe."""
         return self.configuration.values(self.own, pipe_of)
 
     @cached_property
     def carrier(self) -> Integers:
-        """The spell of its pipe during each row's transmission; for a row that didn't leave, the spell at its arrival."""
+        """The place of the pipe's spell at the start of each row's transmission. If the row didn't wait or didn't leave, this is
+        the spell at the row's arrival."""
         replay = self.replay
-        found = np.full(len(self.own), UNKNOWN, np.int64)
+        spell_of_row = np.full(len(self.own), UNKNOWN, np.int64)
         for number, rows in enumerate(places_of(self.pipe, int(self.pipe.max(initial=0)) + 1)):
-            if number and len(start := replay.start[rows]):
+            if number == 0:
+                continue  # these rows have no pipe
+            start = replay.start[rows]
+            if len(start):
                 on_coming = self.configuration.places(("pipe", number), replay.submitted[rows], RECORD)
                 later = self.configuration.places(("pipe", number), start, MOMENT)
-                found[rows] = np.where(start > replay.at[rows], later, on_coming)
-        return found
+                spell_of_row[rows] = np.where(start > replay.at[rows], later, on_coming)
+        return spell_of_row
 
     @cached_property
     def carried(self) -> Integers:
-        """The number of rows that left in each spell, after those in UNKNOWN."""
+        """The number of rows without a spell that left, followed by the number of rows that each spell carried."""
         return np.bincount(self.carrier[self.replay.is_out] + 1)
 
     @cached_property
     def of_nobody(self) -> int:
-        """The five-tuple's number for packets with which a host keeps a link busy in an outage."""
-        words = self.replay.packets.words if self.configuration.path == self.replay.path else None
-        return words.number_of(*WORDS_OF_NOBODY) if words else UNKNOWN
+        """The number of the five-tuple for packets with which a host keeps a link busy in an outage, or UNKNOWN."""
+        words = self.replay.packets.words
+        is_history = self.configuration.path == self.replay.path
+        return words.number_of(*WORDS_OF_NOBODY) if words and is_history else UNKNOWN
 
     @cached_property
     def of_outages(self) -> set[int]:
-        """The spells that only slow an outage's packet."""
+        """The places of the spells that only slow a link down for an outage's packet."""
         return {*self.carrier[self.replay.packets.five_tuple == self.of_nobody].tolist()} - {UNKNOWN}
 
     @cached_property
     def transmission(self) -> Integers:
         """Returns the transmission times in ns, rounded up; 0 if the bandwidth is unlimited."""
-        spells, length = self.configuration.spells, self.replay.packets.length
-        found = np.zeros(len(length), np.int64)
+        spells = self.configuration.spells
+        length = self.replay.packets.length
+        times = np.zeros(len(length), np.int64)
         for spell, rows in zip(spells, places_of(self.carrier + 1, len(spells) + 1)[1:]):
-            if spell.setting and (bandwidth := bandwidth_of(spell.setting)):
-                found[rows] = -(length[rows] * -BITS_NS // bandwidth)
-        return found
+            bandwidth = bandwidth_of(spell.setting) if spell.setting else 0
+            if bandwidth:
+                times[rows] = -(length[rows] * -BITS_NS // bandwidth)
+        return times
 
     def delay_and_behind(self, rows: slice) -> tuple[Integers, Integers]:
         """Returns rows' delays, and the ns for which each row stayed behind the previous row on a link with a shortened delay."""
@@ -190,18 +202,18 @@ class Parts:
     def check(self) -> Parts:
         """Checks the parts; returns this object. Fault: a row's parts don't add up to its delay, so the configuration is wrong."""
         _, behind = self.delay_and_behind(slice(None))
-        wrong = (behind < 0) | (behind > 0) & (len(self.configuration.by_target) == len(self.configuration.spells))
+        wrong = behind < 0
+        if len(self.configuration.by_target) == len(self.configuration.spells):  # no delay became shorter
+            wrong |= behind > 0
         wrong |= (self.own == UNKNOWN) & (self.replay.event != NONE)
         if wrong.any():
             raise self.another(f"row {int(np.argmax(wrong)) + 1} would have fared otherwise")
         return self
 
     def another(self, what: str) -> Fault:
-        """A fault: by the configuration something else would have happened."""
-        path, own = self.replay.path, self.configuration.path
-        why = (
-            f"`dummynet audit {path}` says where it isn't lawful"
-            if path == own
-            else f"{path} is the report of another configuration"
-        )
-        return Fault(f"{what} by {own}: {why}", ROWS)
+        """Returns the fault that something else, which `what` describes, would have happened with this configuration."""
+        path = self.replay.path
+        own = self.configuration.path
+        if path == own:
+            return Fault(f"{what} by {own}: `dummynet audit {path}` says where it isn't lawful", ROWS)
+        return Fault(f"{what} by {own}: {path} is the report of another configuration", ROWS)

@@ -21,22 +21,27 @@ DIFFERENT = 1  # the exit status
 
 def write_table_json(source: Source, table: list[Figures], path: str) -> None:
     """Writes the table as JSON; docs/CAPTURE.md describes its keys."""
-    most = {kind: source.most_late(kind) for kind in KINDS} if source.lateness else None
+    most = None
+    if source.lateness:
+        most = {kind: source.most_late(kind) for kind in KINDS}
     flows: list[dict[str, object]] = [{"flow": row.name, **row.value} for row in table]
-    pipes = None if source.bounds is None else [one.figures() for one in source.bounds]
+    pipes = None if source.bounds is None else [pipe.figures() for pipe in source.bounds]
     head = {"format": FORMAT, "history": source.replay.path, "seed": source.seed, "lateness_ms": most}
     write_json(path, {**head, "pipes": pipes, "flows": flows})
 
 
 def tell_difference(one: str, other: str, path: Optional[str]) -> None:
-    """Prints the first difference of two histories; the exit status shows whether they differ."""
+    """Prints the first difference of two histories, and writes JSON if there is a path. Ends the process with status 1 if the
+    histories differ."""
     from hinge.replays.parting import parting
 
     refuse_inputs((path,), (one, other))
     part = parting(one, other)
     if path:
         record: dict[str, object] = {"format": FORMAT, "histories": [one, other], "equal": part is None}
-        write_json(path, {**record, **(part.known() if part else {})})
+        if part:
+            record |= part.known()
+        write_json(path, record)
     if part is None:
         show(f"{one} and {other} have the same calls and replies")
     else:
@@ -46,27 +51,33 @@ def tell_difference(one: str, other: str, path: Optional[str]) -> None:
 
 
 def tell_of(source: Source, options: LookOptions, head: str) -> None:
-    """Writes a source's files; then prints its table, as the reader may close the pipe."""
+    """Writes a source's captures, then prints its table below `head`, and writes the table as JSON. The captures come first, since
+    the table's reader may close the pipe."""
     table = table_of(source.replay, source.parts, options.by, options.top or TABLE_FLOWS)
     for name in options.files(*CAPTURES):
         from hinge.captures.through import write_through
 
         say(write_through(source, options.capture or "", options.index or "", name))
     show(head, end="")
-    (write_csv if options.csv else write_text)(table, standard_output())
-    write_bounds([] if options.csv else source.bounds or [], standard_output())
+    if options.csv:
+        write_csv(table, standard_output())
+    else:
+        write_text(table, standard_output())
+        write_bounds(source.bounds or [], standard_output())
     if options.json:
         write_table_json(source, table, options.json)
 
 
 def judge_run(path: str) -> None:
-    """Checks whether a run followed its words, and ends the process with a special status if not."""
+    """Prints how the links in a run's history agree with its options' words; ends the process with status 1 if they don't."""
     from hinge.plans.sessions import judged_run
 
     judge = judged_run(path)
-    for text in judge.lines_told() if judge else ():
+    if judge is None:
+        return
+    for text in judge.lines_told():
         say(text)
-    if judge and judge.faults:
+    if judge.faults:
         sys.exit(DIFFERENT)
 
 
@@ -79,7 +90,11 @@ def look(options: LookOptions, most_reports: int) -> None:
 
         draw_sources(sources, name, options)
     for number, source in enumerate(sources):
-        head = f"{'' if number == 0 else chr(10)}{source.replay.path}\n" if len(sources) > 1 else ""
+        head = ""
+        if len(sources) > 1:
+            head = f"{source.replay.path}\n"
+        if number > 0:
+            head = "\n" + head
         tell_of(source, options, head)
     for remark in sources[0].remarks():
         say(remark)

@@ -12,20 +12,20 @@ from hinge.arguments import is_number
 from hinge.border.files import MOST_TABLE, lines_of, opened, untrusted
 from hinge.command import ROWS, Fault
 
-AROUND = 3  # calls before the first that differs, and from it on
+AROUND = 3  # the number of calls that are shown before the difference, and from there on
 NS_PER_S = 10**9
 FORMATS = ("dummynet-history,", "dummynet-live,")
-TIMED = ("submit", "advance", "collect")  # whose last field is a moment
+TIMED = ("submit", "advance", "collect")  # the calls whose last field is a moment
 
 
 class Entry(NamedTuple):
-    """A call and its reply."""
+    """Describes a call in a history, with its reply."""
 
-    number: int  # of the call, from 1
-    line: int  # of its record in the file
-    row: Optional[int]  # of the packet of a submit, from 1
+    number: int  # the call's number, from 1
+    line: int  # the line of the call's record in the file
+    row: Optional[int]  # the number of a submitted packet, from 1
     call: str
-    reply: "tuple[str, ...]"  # its record, and those of its items
+    reply: "tuple[str, ...]"  # the record of the reply, and the records of its items
 
     @property
     def moment(self) -> Optional[int]:
@@ -34,7 +34,7 @@ class Entry(NamedTuple):
         return int(fields[-1]) if fields[2:] and fields[2] in TIMED and is_number(fields[-1]) else None
 
     def known(self) -> dict[str, Any]:
-        """Returns the entry for JSON."""
+        """Returns the call and its reply for JSON."""
         front = {"call": self.number, "line": self.line, "row": self.row, "moment_ns": self.moment}
         return {**front, "text": self.call, "reply": list(self.reply)}
 
@@ -55,7 +55,10 @@ def entries(path: Union[str, Path]) -> Iterator[Entry]:
                 call = record if record[0] == "c" else ""
                 reply = []
                 start = line
-                number, row = number + bool(call), row + is_packet(call)
+                if call:
+                    number += 1
+                if is_packet(call):
+                    row += 1
             elif record and record[0] != "#":
                 reply.append(record)
     if call:
@@ -74,33 +77,34 @@ class Parting(NamedTuple):
 
     @property
     def number(self) -> int:
-        """The first call that differs."""
+        """Returns the number of the first call that differs."""
         return next(result[0].number for result in self.after if result)
 
     def reason(self) -> str:
         """Returns a description of the difference."""
-        one, other = self.after
-        if not one or not other:
-            return f"the {'first' if not one else 'second'} ends before it"
-        return "the calls differ" if one[0].call != other[0].call else "its replies differ"
+        first, second = self.after
+        if not first:
+            return "the first ends before it"
+        if not second:
+            return "the second ends before it"
+        return "the calls differ" if first[0].call != second[0].call else "its replies differ"
 
     def at(self) -> str:
-        """When it was made, if a call says so."""
-        moment = next((result[0].moment for result in self.after if result and result[0].moment is not None), None)
+        """Returns the moment of the first call that differs, as text; an empty text if neither call contains a moment."""
+        moments = (entries_after[0].moment for entries_after in self.after if entries_after)
+        moment = next((moment for moment in moments if moment is not None), None)
         return "" if moment is None else f", at {moment / NS_PER_S:.9f} s"
 
     def text(self) -> str:
         """Returns the calls around the difference: common calls, calls in the first history (-) and calls in the second (+)."""
         groups = ((" ", self.before), ("-", self.after[0]), ("+", self.after[1]))
-        width = max(len(str(it.number)) for _, result in groups for it in result)
+        pairs = [(sign, entry) for sign, group in groups for entry in group]
+        width = max(len(str(entry.number)) for _, entry in pairs)
         lines = []
-        for sign, result in groups:
-            for it in result:
-                row = "" if it.row is None else f"  (row: {it.row})"
-                lines += [
-                    f"{sign} {it.number:>{width}}  {it.call}{row}",
-                    *(f"{sign} {'':{width}}  {record}" for record in it.reply),
-                ]
+        for sign, entry in pairs:
+            row = "" if entry.row is None else f"  (row: {entry.row})"
+            lines.append(f"{sign} {entry.number:>{width}}  {entry.call}{row}")
+            lines += [f"{sign} {'':{width}}  {record}" for record in entry.reply]
         return "\n".join(lines)
 
     def known(self) -> dict[str, Any]:
@@ -108,8 +112,8 @@ class Parting(NamedTuple):
         return {
             "call": self.number,
             "reason": self.reason(),
-            "before": [it.known() for it in self.before],
-            "after": [[it.known() for it in result] for result in self.after],
+            "before": [entry.known() for entry in self.before],
+            "after": [[entry.known() for entry in group] for group in self.after],
         }
 
 
@@ -123,7 +127,7 @@ def parting(one: Union[str, Path], other: Union[str, Path]) -> Optional[Parting]
     first, second = entries(one), entries(other)
     for pair in zip_longest(first, second):
         if not same(*pair):
-            ours, theirs = ([it, *islice(rest, AROUND - 1)] if it else [] for it, rest in zip(pair, (first, second)))
+            ours, theirs = ([entry, *islice(rest, AROUND - 1)] if entry else [] for entry, rest in zip(pair, (first, second)))
             return Parting(list(before), (ours, theirs))
         before.append(pair[0])
     return None

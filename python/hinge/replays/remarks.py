@@ -1,4 +1,5 @@
-"""A live host's remarks in its transcript, which are records that begin with `#`: IPv6 addresses, the seed, flipped bits, and lateness."""
+"""A live host's remarks in its transcript, which are records that begin with `#`: IPv6 addresses, the seed, flipped bits, and
+lateness."""
 
 from __future__ import annotations
 
@@ -12,13 +13,13 @@ from hinge.lazy import Reals, few as np
 
 NS_PER_S, NS_PER_MS = 10**9, 10**6
 KINDS = ("late", "unread")
-LEAST_LATE = 0.001  # ms, of a host whose lateness is told and drawn: in simulated time it is less
-# of each way, `late` and `unread`: moments in s, and the most until then in ms
+LEAST_LATE = 0.001  # ms, from which on lateness is reported and drawn; in simulated time lateness is less
+# for each way (one direction of a link), and for `late` and `unread`: moments in s, and the maximum in ms up to each moment
 Lateness = dict[str, dict[str, tuple[Reals, Reals]]]
 
 
 def remarks_of(data: bytes, kind: bytes) -> Iterator[list[str]]:
-    """Yields the fields after `#,KIND,` of each such remark."""
+    """Yields the fields after `#,KIND,` in each remark of this kind."""
     begin = b"\n#," + kind + b","
     at = data.find(begin)
     while at >= 0:
@@ -42,18 +43,20 @@ def seed_in(data: bytes) -> Optional[str]:
 
 
 def words_in(data: bytes) -> dict[str, str]:
-    """Returns each option's last words, from the remarks `#,asked,OPTION,LINE,WORDS`."""
+    """Returns each option's words in a run, from the last remark `#,asked,OPTION,LINE,WORDS`."""
     return {fields[0]: ",".join(fields[2:]) for fields in remarks_of(data, b"asked")}
 
 
 def flips_in(data: bytes) -> dict[int, tuple[int, int]]:
-    """Returns each packet with flipped bits, and the number of bits, from the remarks `#,corrupt,PACKET,BIT,BITS,CONTENT`."""
+    """Returns the flipped bit and the number of bits for each packet with a flipped bit, from the remarks
+    `#,corrupt,PACKET,BIT,BITS,CONTENT`."""
     flips = (fields[:3] for fields in remarks_of(data, b"corrupt") if all(map(is_number, fields[:3])) and len(fields) == 4)
     return {int(packet): (int(bit), int(bits)) for packet, bit, bits in flips if int(bits)}
 
 
 def lateness_in(data: bytes) -> Lateness:
-    """Returns the lateness of the host from the remarks `#,late,MOMENT` with LATE and UNREAD of each way, in ns."""
+    """Returns the host's lateness from the remarks `#,late,MOMENT`. Each remark continues with LATE and UNREAD for each way (one
+    direction of a link), in ns."""
     numbers, width = array("q"), 1
     for fields in remarks_of(data, b"late"):
         if all(map(is_number, fields)) and len(fields) == (width if numbers else len(fields) | 1):
@@ -71,12 +74,13 @@ def lateness_in(data: bytes) -> Lateness:
 
 
 def late_remark(late: float, unread: float) -> Iterator[str]:
-    """Yields the report on a live host's maximum lateness and maximum time with unread packets, in ms."""
+    """Yields a text on a live host's maximum lateness, and the maximum time that packets lay unread, in ms, if either is
+    noticeable."""
     if max(late, unread) >= LEAST_LATE:
         yield f"the host was late by {late:,.4g} ms and packets lay unread for {unread:,.4g} ms at most: the picture has each second"
 
 
 def way_name(number: int, count: int) -> str:
-    """Returns `up` or `down`, with the link's number if there are several."""
+    """Returns a way's name, `up` or `down`, with the link's number if there are several links. A way is one direction of a link."""
     way = "down" if number % 2 else "up"
     return way if count == 2 else f"link {number // 2 + 1} {way}"

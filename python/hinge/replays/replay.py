@@ -21,7 +21,7 @@ PROTOCOLS = {1: "icmp", 6: "tcp", 17: "udp", 58: "icmpv6", 132: "sctp"}
 
 @dataclass(frozen=True)
 class Packets:
-    """A packet file. `target` and `five_tuple` number the names in `targets` and `tuples`."""
+    """Holds a packet file as columns. `target` and `five_tuple` contain places in `targets` and `tuples`."""
 
     path: str
     moment: Integers
@@ -31,7 +31,7 @@ class Packets:
     word: Integers
     targets: list[tuple[str, int]]
     tuples: Sequence[tuple[str, str, int, int, int]]
-    words: Optional[Tuples] = None  # of the same five-tuples
+    words: Optional[Tuples] = None  # the same five-tuples as numbers
 
     def __len__(self) -> int:
         return len(self.moment)
@@ -47,7 +47,7 @@ class Packets:
 
 @dataclass(frozen=True)
 class Replay:
-    """The results of the packets in a packet file."""
+    """Holds the results for a packet file's packets: events, flows, and the moments of sending, transmission and leaving in ns."""
 
     path: str
     packets: Packets
@@ -57,9 +57,9 @@ class Replay:
     at: Integers
     start: Integers
     due: Integers
-    submitted: Integers  # the record of the call, and that of the delivery; in a report each comes behind all commands
-    handed: Integers
-    flips: dict[int, tuple[int, int]]  # by packets: the flipped bit from the last on, and of how many
+    submitted: Integers  # the record of the call that submitted the packet; in a report, all records come behind all commands
+    handed: Integers  # the record that handed the packet over
+    flips: dict[int, tuple[int, int]]  # for packets with a flipped bit: the bit, counted from the last, and the number of bits
 
     @cached_property
     def is_out(self) -> Mask:
@@ -80,18 +80,20 @@ def dotted(address: int) -> str:
 
 
 def packets_of(path: str, rows: Rows, moment: Integers, remarked: Mapping[str, str]) -> Packets:
-    """Rows with these moments, and with IPv6 addresses from remarks and from the neighbouring file."""
+    """Returns rows as packets with these moments. IPv6 addresses replace IPv4 stand-ins: addresses from `remarked`, or from the
+    neighbouring file."""
     columns, five = rows.columns, rows.tuples
 
     def used() -> set[str]:
-        both = set(five.words[::2])
-        return {dotted(address) for word in both for address in (word >> 32 & 0xFFFFFFFF, word & 0xFFFFFFFF)}
+        pairs = set(five.words[::2])
+        return {dotted(address) for pair in pairs for address in (pair >> 32 & 0xFFFFFFFF, pair & 0xFFFFFFFF)}
 
     addresses = {**read_addresses(path, used), **remarked}
 
     def named(place: int) -> tuple[str, str, int, int, int]:
         src, dst, *more = five.numbers(place)
-        return (*(addresses.get(dotted(address), dotted(address)) for address in (src, dst)), *more)  # type: ignore[return-value]
+        ends = (addresses.get(dotted(address), dotted(address)) for address in (src, dst))
+        return (*ends, *more)  # type: ignore[return-value]
 
     tuples = Lazily(len(five.words) // 2, named)
     target, five_tuple, length, word = (columns[name] for name in ("target", "five_tuple", "length", "word"))
@@ -110,7 +112,8 @@ def read_report(path: str, packets: Packets) -> Replay:
         raise Fault(f"{path}: its {count} lines aren't those of the {len(packets)} rows of {packets.path}", ROWS)
     is_early = columns["at"] < packets.moment
     if is_early.any():
-        row, why = int(np.argmax(is_early)) + 1, "it is the report of other packets"
+        row = int(np.argmax(is_early)) + 1
+        why = "it is the report of other packets"
         raise Fault(f"{path}: row {row} was sent before its moment in {packets.path}: {why}", ROWS)
     calls = np.zeros(len(packets), np.int64)
     return Replay(path, packets, **columns, submitted=calls, handed=columns["packet"], flips={})

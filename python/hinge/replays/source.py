@@ -19,24 +19,25 @@ from hinge.replays.replay import NONE, Replay, read_packets, read_report
 
 @dataclass(frozen=True)
 class Source:
-    """The packets' fates."""
+    """Holds a replay with the files and, if known, the configuration and the host's remarks."""
 
     replay: Replay
     files: tuple[str, ...]
-    configuration: Optional[Configuration] = None  # if it is known
-    is_steady: bool = True  # one configuration holds for every packet
+    configuration: Optional[Configuration] = None  # None if it is unknown
+    is_steady: bool = True  # whether one configuration holds for every packet
     is_history: bool = False
     cut: Optional[int] = None  # the last line of a history that has no end
-    seed: Optional[str] = None  # of what a live host drew, if it told
-    lateness: Lateness = field(default_factory=dict)  # of a live host, if it told
-    words: dict[str, str] = field(default_factory=dict)  # of a run's options
-    whole: Optional[Source] = None  # with the rows that are left out here, and the places there of all others
-    rows: Optional[Integers] = None
+    seed: Optional[str] = None  # of a live host's random draws, if the history contains it
+    lateness: Lateness = field(default_factory=dict)  # of a live host; empty if the history doesn't contain it
+    words: dict[str, str] = field(default_factory=dict)  # the words of a run's options
+    whole: Optional[Source] = None  # the source with the rows that are left out here
+    rows: Optional[Integers] = None  # the places of the rows in `whole`
 
     @property
     def changes(self) -> list[tuple[int, str]]:
         """Returns the applied commands, each with its moment in ns, as far as they are known."""
-        return [(moment, text) for _, moment, text in self.configuration.changes] if self.configuration else []
+        changes = self.configuration.changes if self.configuration else []
+        return [(moment, text) for _, moment, text in changes]
 
     @cached_property
     def parts(self) -> Optional[Parts]:
@@ -49,13 +50,13 @@ class Source:
         return list(bounds(self.replay, self.parts.configuration)) if self.parts and self.is_steady else None
 
     def explained(self) -> Parts:
-        """Returns the delays' parts, or the reason for their absence. Fault: a paragraph needs them."""
+        """Returns the parts of the delays. Fault: the configuration is unknown, and a paragraph needs it."""
         if self.parts is None:
             raise Fault("a paragraph needs the configuration: --config FILE", USAGE)
         return self.parts
 
     def remarks(self) -> Iterator[str]:
-        """Returns remarks for a table or a picture: rows without a target, and a history's remarks on its host."""
+        """Yields the remarks for a table: rows without a target, packets with a flipped bit, and the host's lateness."""
         yield from untargeted_lines(self.replay)
         if self.replay.flips:
             yield f"{several(len(self.replay.flips), 'packet')} left with a flipped bit"
@@ -77,7 +78,8 @@ def untargeted(replay: Replay) -> dict[str, int]:
 
 
 def untargeted_lines(replay: Replay) -> Iterator[str]:
-    """Yields a line for each target that isn't configured, so that a wrong number is noticed, and one if no row has a target."""
+    """Yields a text for each target that isn't configured, so that users notice a wrong number, and another if no row has a
+    target."""
     table = untargeted(replay)
     for target, count in table.items():
         yield f"{several(count, 'row')} went to {target}, which isn't configured"
@@ -89,35 +91,40 @@ def of_reports(packets_path: str, reports: list[str], config: Optional[str]) -> 
     """Returns the sources for several reports of a packet file."""
     packets = read_packets(packets_path)
     configuration = read_configuration(config) if config else None
-    files = [(packets_path, report, *([config] if config else [])) for report in reports]
-    return [Source(read_report(report, packets), names, configuration) for report, names in zip(reports, files)]
+    configurations = (config,) if config else ()
+    return [Source(read_report(report, packets), (packets_path, report, *configurations), configuration) for report in reports]
 
 
 def seen(source: Source) -> Source:
-    """Returns a run's packets as its programs send them: a packet with jitter once, though two pipes pass it, and no outage's packet."""
+    """Returns the source with only those packets that a run's programs sent. A packet that passed two pipes, because of jitter or a
+    separate delay, is a single row. Packets that represent an outage are left out."""
     parts = source.parts if source.is_history else None
     if parts is None:
         return source
-    again, five_tuple = LinkOrder(parts).further, source.replay.packets.five_tuple
-    is_own = five_tuple != parts.of_nobody
+    again = LinkOrder(parts).further
+    is_own = source.replay.packets.five_tuple != parts.of_nobody
     for place in again.values():
         is_own[place] = False
     if is_own.all():
         return source
-    rows, bounds = np.flatnonzero(is_own), source.bounds
+    rows = np.flatnonzero(is_own)
     replay = chosen(joined(source.replay, again), rows)
     configuration = without_help(parts, bool(again))
     result = replace(source, replay=replay, configuration=configuration, whole=source, rows=rows)
-    # The whole source was checked, and the proved bounds are on the delay of a pipe, not of several.
-    bounds = bounds and [one for one in bounds if not again or one.bound.pipe <= LAST_OF_LINKS]
+    # A proved bound is on the delay of a single pipe, and the parts of the whole source have been checked.
+    bounds = source.bounds
+    if bounds and again:
+        bounds = [pipe for pipe in bounds if pipe.bound.pipe <= LAST_OF_LINKS]
     result.__dict__.update(parts=Parts(replay, configuration), bounds=bounds)
     return result
 
 
 def joined(replay: Replay, again: dict[int, int]) -> Replay:
-    """Returns a replay in which each packet leaves at the end of its last pass."""
-    event, due = replay.event.copy(), replay.due.copy()
-    for first, last in sorted(again.items(), reverse=True):  # so that the later passes of a packet are joined before
+    """Returns a replay in which each packet leaves the first pipe when the packet leaves the last pipe. `again` contains each
+    packet's row in the next pipe."""
+    event = replay.event.copy()
+    due = replay.due.copy()
+    for first, last in sorted(again.items(), reverse=True):  # a packet's later passes are joined before its earlier ones
         event[first], due[first] = event[last], due[last]
     return replace(replay, event=event, due=due)
 
@@ -133,7 +140,8 @@ def chosen(replay: Replay, rows: Integers) -> Replay:
 
 
 def without_help(parts: Parts, has_passes: bool) -> Configuration:
-    """Returns the configuration without second passes, and without lines that slow a pipe down in an outage."""
+    """Returns the configuration without lines that slow a pipe down in an outage and, with `has_passes`, without the pipes to which
+    a host passes packets again."""
     lines = parts.configuration
     changes = [
         change

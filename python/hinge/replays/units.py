@@ -6,7 +6,7 @@ from typing import Iterable
 
 
 def ms(ns: int) -> str:
-    """Milliseconds with all six digits, so that sums can be checked by eye."""
+    """Returns milliseconds with all six decimal places, so that readers can check sums."""
     return f"{ns // 10**6:,}.{ns % 10**6:06d} ms"
 
 
@@ -25,7 +25,7 @@ def packets(count: int) -> str:
 
 
 def rows(numbers: Iterable[int], most: int = 8) -> str:
-    """Row numbers with runs as `3-7`, at most so many runs."""
+    """Returns the row numbers as text, with runs such as `3-7`. After `most` runs only the number of the other rows follows."""
     runs: list[list[int]] = []
     for number in sorted(numbers):
         if runs and runs[-1][1] == number - 1:
@@ -33,6 +33,7 @@ def rows(numbers: Iterable[int], most: int = 8) -> str:
         else:
             runs.append([number, number])
     view = ", ".join(str(low) if low == high else f"{low}-{high}" for low, high in runs[:most])
+    if len(runs) == 1 and runs[0][0] == runs[0][1]:
+        return f"row {view}"
     rest = sum(high - low + 1 for low, high in runs[most:])
-    plural = "row" if len(runs) == 1 and runs[0][0] == runs[0][1] else "rows"
-    return f"{plural} {view}" + (f" and {rest:,} more" if rest else "")
+    return f"rows {view} and {rest:,} more" if rest else f"rows {view}"

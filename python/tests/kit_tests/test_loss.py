@@ -216,7 +216,7 @@ class Rules(unittest.TestCase):
             of_capture = read_rule(text)
             frame = random_frame(rng)
             way = rng.randint(0, 1)
-            self.assertEqual((live.way, of_capture.target), (of_capture.way, "queue,7"))
+            self.assertEqual((live.way, of_capture.target), (of_capture.way, ("queue", 7)))
             lines = live.lines(way if live.way is None else live.way)
             there = any(fits(line, frame, way) for line in lines)
             here = of_capture.way in (None, way) and all(test(asked(frame)) == [True] for test in of_capture.tests)

@@ -113,7 +113,7 @@ class Panels(unittest.TestCase):
         for gray in grays:
             assert len({gray[1:3], gray[3:5], gray[5:7]}) == 1, gray
         found = PanelsOf(series_of("dsl"))
-        used = [color for number, _, color in found.flows() if not found.found.flows[number].is_rest]
+        used = [color for number, _, color in found.flows() if not found.series.flows[number].is_rest]
         assert len(set(used)) == len(used)
 
     def test_empty_panels_are_left_out(self) -> None:
