@@ -69,7 +69,7 @@ def advice_on(words: list[str], program: str) -> str:
     import difflib
     import shlex
 
-    from hinge.foreign import answer_of
+    from hinge.foreign import replacement_of
     from hinge.misplaced import advised, filled, kind_of, line_for
 
     files = [word for word in words if os.path.exists(word) and kind_of(word)]
@@ -78,7 +78,7 @@ def advice_on(words: list[str], program: str) -> str:
     place = next((place for place, word in enumerate(words) if word.lower() in COMMANDS), -1)
     if place == 0 or (place > 0 and words[0].startswith("-")):
         return f"write hinge {shlex.join([words[place].lower(), *words[place + 1 :]])}"
-    answer = answer_of(words)
+    answer = replacement_of(words)
     if answer is not None:
         answer = answer._replace(write=filled(answer.write, words))
         if all(file in answer.write for file in files):

@@ -22,10 +22,10 @@ from hinge.border.files import lines_in
 from hinge.events.forms import line_meant
 
 IS_LOST, IS_TWICE, IS_LATE = "lost", "twice", "late"
-CUT, HOLD, CRASH, SKEW = ACTS = "cut", "hold", "crash", "skew"
+CUT, HOLD, CRASH, SKEW = ACT_KINDS = "cut", "hold", "crash", "skew"
 LINE = re.compile(r"(?P<link>\S.* > .*\S) packet (?P<packet>[1-9]\d{0,17}) (?:(?P<kind>lost|twice)|late (?P<ms>[1-9]\d{0,6})ms)")
 TIME = r"\d{1,9}(?:\.\d{1,9})?(?:ms|s)"
-ACT = re.compile(rf"at (?P<moment>{TIME}) (?P<kind>{'|'.join(ACTS)}) (?P<of>\S(?:.*\S)?) (?P<sign>[+-]?)(?P<length>{TIME})")
+ACT = re.compile(rf"at (?P<moment>{TIME}) (?P<kind>{'|'.join(ACT_KINDS)}) (?P<of>\S(?:.*\S)?) (?P<sign>[+-]?)(?P<length>{TIME})")
 LATEST = 3_600_000  # the most ms that a pipe can delay a packet
 FAULT_ADVICE = (  # patterns of lines that people write, and their replacements
     (r"(?:lose|drop) (.*)", r"\1 lost"),
@@ -64,13 +64,13 @@ class Act:
 
     def __str__(self) -> str:
         sign = "+" if self.kind == SKEW and self.seconds >= 0 else ""
-        return f"at {spelled(self.moment)} {self.kind} {self.of} {sign}{spelled(self.seconds)}"
+        return f"at {spelled_seconds(self.moment)} {self.kind} {self.of} {sign}{spelled_seconds(self.seconds)}"
 
 
-Either = Union[Fault, Act]
+AnyFault = Union[Fault, Act]
 
 
-def spelled(seconds: float) -> str:
+def spelled_seconds(seconds: float) -> str:
     """Returns a time as a fault's line spells it, such as `1.5s`."""
     return f"{seconds:.9f}".rstrip("0").rstrip(".") + "s"
 
@@ -96,7 +96,7 @@ def read_act(line: str) -> Act:
     return Act(seconds_of(match["moment"]), match["kind"], match["of"], seconds)
 
 
-def read_fault(line: str) -> Either:
+def read_fault(line: str) -> AnyFault:
     """Returns the fault or act that a line describes. ValueError: the line is malformed."""
     match = LINE.fullmatch(line)
     if match is None and line.startswith("at "):
@@ -108,11 +108,11 @@ def read_fault(line: str) -> Either:
     return Fault(match["link"], int(match["packet"]), match["kind"] or IS_LATE, int(match["ms"] or 0))
 
 
-class Faults(Tuple[Either, ...]):
+class Faults(Tuple[AnyFault, ...]):
     """Holds faults of packets and acts on hosts and links, in order. Each argument is a Fault, an Act, or a line of text such as
     `client > server packet 3 lost`."""
 
-    def __new__(cls, *lines: Union[str, Either]) -> Faults:
+    def __new__(cls, *lines: Union[str, AnyFault]) -> Faults:
         faults = (read_fault(line) if isinstance(line, str) else line for line in lines)
         return super().__new__(cls, faults)  # type: ignore[arg-type]
 
@@ -139,7 +139,7 @@ class Drawn(Faults):
 
 def faults_in(path: Union[str, Path], lines: Iterable[str]) -> Faults:
     """Returns the faults in a file's lines; comments begin with `#`. ValueError: a line is malformed."""
-    faults = dict[object, Either]()
+    faults = dict[object, AnyFault]()
     for number, line in enumerate(lines, 1):
         text = line.partition("#")[0].strip()
         if not text:

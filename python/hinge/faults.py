@@ -9,7 +9,7 @@ from __future__ import annotations
 
 from typing import TYPE_CHECKING, Any, Coroutine, Iterable, Optional, Sequence, TypeVar
 
-from hinge.fault_lines import ACTS, CRASH, CUT, HOLD, IS_LATE, IS_LOST, IS_TWICE, SKEW, Act, Drawn, Either, Fault, Faults
+from hinge.fault_lines import ACT_KINDS, CRASH, CUT, HOLD, IS_LATE, IS_LOST, IS_TWICE, SKEW, Act, Drawn, AnyFault, Fault, Faults
 from hinge.loss import Listed
 from hingetulip.aio import Host, Link, Network
 from hingetulip.aio.extra import IsTwice, LateOf
@@ -32,7 +32,7 @@ MOST_ACTS = 2
 class FaultyNetwork(Network):
     """A network whose links lose packets only through these faults, or, without faults, at their own rates."""
 
-    def __init__(self, faults: Optional[Iterable[Either]] = None, **more: Any) -> None:
+    def __init__(self, faults: Optional[Iterable[AnyFault]] = None, **more: Any) -> None:
         super().__init__(**more)
         self.chosen = faults if faults is None or isinstance(faults, Faults) else Faults(*faults)
         self.acted: dict[Act, Disturbance] = {}
@@ -77,7 +77,7 @@ class FaultyNetwork(Network):
         delay_of: Optional[LateOf] = (lambda number: late.get(number, 0)) if late else None
         return delay_of, twice.__contains__ if twice else None
 
-    def faults_met(self) -> list[Either]:
+    def faults_met(self) -> list[AnyFault]:
         """Returns the faults that happened to packets: losses and copies in order of time, then delays by link and packet."""
         faults = [Fault(link.name, number, kind) for link, kind, number in self.happened if kind != IS_LATE]
         late = [Fault(link.name, number, kind, link.late.get(number, 0)) for link, kind, number in self.happened if kind == IS_LATE]
@@ -110,7 +110,7 @@ class FaultyNetwork(Network):
         return lines
 
 
-def run(main: Coroutine[Any, Any, T], faults: Iterable[Either], *, seed: int = 1, timeout: Optional[float] = None) -> T:
+def run(main: Coroutine[Any, Any, T], faults: Iterable[AnyFault], *, seed: int = 1, timeout: Optional[float] = None) -> T:
     """Runs a coroutine in a new network with these faults, like `hingetulip.aio.run`; returns its value. Unmet: a fault's link or
     host doesn't exist, or a fault not drawn by `some_faults` had no effect."""
     with FaultyNetwork(faults, seed=seed) as net:
@@ -142,7 +142,7 @@ def some_faults(*links: str, packets: int = 60, hosts: Sequence[str] = (), secon
     of_packets = several.map(lambda trains: Drawn(*sorted({fault for train in trains for fault in train})))
     if not seconds:
         return of_packets
-    targets = [(kind, link) for link in links for kind in (CUT, HOLD)] + [(kind, host) for host in hosts for kind in ACTS]
+    targets = [(kind, link) for link in links for kind in (CUT, HOLD)] + [(kind, host) for host in hosts for kind in ACT_KINDS]
     acts = strategies.builds(
         lambda tenths, target, lasting: Act(tenths / 10, target[0], target[1], lasting),
         strategies.integers(0, 10 * seconds),

@@ -11,7 +11,7 @@ from functools import lru_cache
 from typing import Callable, Optional, Sequence
 
 from hinge.command import Fault
-from hinge.foreign_options import OF_LINK
+from hinge.foreign_options import LINK_OPTIONS
 from hinge.foreign_words import EXAMPLE, EXAMPLES, WORDS, Answer, lacking
 from hingetulip_words.foreign import STRICT, Meant, amount
 from hingetulip_words.link import LEFT_OUT, Place, corrected, in_full, link_before, read_link
@@ -177,7 +177,7 @@ def of_run(words: Sequence[str]) -> Optional[Answer]:
 
 def with_link(options: Sequence[str]) -> list[str]:
     """Returns options for `hinge run`, in which a link replaces options such as --delay."""
-    places = [place for place, word in enumerate(options[:-1]) if word in OF_LINK]
+    places = [place for place, word in enumerate(options[:-1]) if word in LINK_OPTIONS]
     meant = Meant("ours", [word for place in places for word in options[place : place + 2]])
     others = [word for place, word in enumerate(options) if place not in places and place - 1 not in places]
     return [*others, *meant.options()]
@@ -227,7 +227,7 @@ def refusal(line: str) -> str:
     return ""
 
 
-def answer_of(words: Sequence[str]) -> Optional[Answer]:
+def replacement_of(words: Sequence[str]) -> Optional[Answer]:
     """Returns the replacement for these words after `hinge`, or why `hinge run` refuses the replacement; None if the words are
     unknown."""
     answer = replacement(words)

@@ -37,9 +37,9 @@ TABLE = """
 --downlink-queue = --down '10Mbit/s queue 100' for {0}
 """
 ROWS = [row.split(" = ", 1) for row in TABLE.strip().splitlines()]
-OPTIONS = {option: (form, "{" in form) for options, form in ROWS for option in options.split()}
-OF_LINK = "--rate --bandwidth --bw --speed --delay --latency --rtt --plr --packet-loss --drop --queue --target-bw".split()
-OF_LINK += [f"--{word}" for word in EXTRAS]
+FOREIGN_OPTIONS = {option: (form, "{" in form) for options, form in ROWS for option in options.split()}
+LINK_OPTIONS = "--rate --bandwidth --bw --speed --delay --latency --rtt --plr --packet-loss --drop --queue --target-bw".split()
+LINK_OPTIONS += [f"--{word}" for word in EXTRAS]
 # The kinds of values that a form may name, each with its pattern and an example.
 KINDS = {"time": (r"\d[\d.]*(ns|us|ms|s|min|h|d)?", "1s"), "number": (r"\d+", "100"), "seeds": (r"\d[\d,-]*", "1-100")}
 
@@ -47,7 +47,7 @@ KINDS = {"time": (r"\d[\d.]*(ns|us|ms|s|min|h|d)?", "1s"), "number": (r"\d+", "1
 def one_way(option: str, value: str) -> tuple[list[str], str]:
     """Returns the alternatives that replace an option, and the option's value. If the value begins with a direction, as in
     up:20ms, both are for this direction alone."""
-    form = OPTIONS[option][0]
+    form = FOREIGN_OPTIONS[option][0]
     way, colon, rest = value.partition(":")
     if colon and way in ("up", "down"):
         other = "down" if way == "up" else "up"

@@ -201,16 +201,16 @@ def gilbert(text: str) -> str:
     return f"{to_bad} {to_good} {in_good} {in_bad}"
 
 
-def listed(text: str) -> str:
+def packet_ranges(text: str) -> str:
     """Returns the plan's numbers for packets such as `3,10-20`, which count from 1."""
     return " ".join(map(str, sorted(read_numbers(text))))
 
 
-MODELS = {"gilbert": gilbert, "list": listed}
+MODELS = {"gilbert": gilbert, "list": packet_ranges}
 FORMS = "none of gilbert:P,R[,B[,G]] and list:N,N-M (examples: gilbert:0.01,0.3 and list:3,17-20)"
 
 
-def rate_of(text: str) -> str:
+def percentage_of(text: str) -> str:
     """Returns a loss rate as a percentage, such as `1%`; an empty text if the text is no rate."""
     match = re.fullmatch(r"(\d+(?:\.\d+)?|\.\d+)(%?)", text)
     if match is None:
@@ -237,7 +237,7 @@ def loss_lines(text: str, link: int = 0) -> dict[int, str]:
         return {2 * link + way: f"{kind} {2 * link + way} {numbers}" for way in ways}
     except ValueError as wrong:
         why = str(wrong) if "twice" in str(wrong) else FORMS
-        rate = rate_of(text)
+        rate = percentage_of(text)
         if rate:
             why += f"; write a rate in the link: 20ms loss {rate}"
         raise Wrong(f"--loss {text}: {why}") from None

@@ -6,7 +6,7 @@ import re
 import shlex
 from typing import Collection, Mapping, Sequence
 
-from hinge.foreign_options import OPTIONS, filled, one_way
+from hinge.foreign_options import FOREIGN_OPTIONS, filled, one_way
 from hingetulip_words.foreign import Meant
 from hingetulip_words.link import corrected
 from hingetulip_words.presets import either_way
@@ -45,7 +45,7 @@ def option_in_place(option: str, value: str, names: Collection[str]) -> str:
 def of_options(options: Sequence[tuple[str, str]], values: Mapping[str, Sequence[str]], names: Collection[str]) -> str:
     """Returns the message that refuses other tools' `options`, each with its value: the replacement for them all, and the options
     without a replacement. `values` contains the values of the command line's known options, and `names` the command's options."""
-    meant = Meant("ours", [word for option, value in options if option not in OPTIONS for word in (option, value)])
+    meant = Meant("ours", [word for option, value in options if option not in FOREIGN_OPTIONS for word in (option, value)])
     new_words = [*meant.options()[1:], *filter(None, map(corrected, meant.rest))]
     unknown = [f"{words!r} isn't such a value" for words in meant.rest if not corrected(words)]
     preset = " ".join(values.get("--preset", ())) if new_words else ""
@@ -62,7 +62,7 @@ def of_options(options: Sequence[tuple[str, str]], values: Mapping[str, Sequence
     if preset:
         parts.append(f"in place of --preset {preset}")
     for option, value in options:
-        if option in OPTIONS:
+        if option in FOREIGN_OPTIONS:
             add_part(parts, meant.left, option, option_in_place(option, value, names))
     notes = [f"write {' '.join(parts)}".replace(" ; ", "; ")] if parts else []
     if lacks_bandwidth:

@@ -13,7 +13,7 @@ from typing import Iterable, Iterator, Mapping, Optional, TextIO, Union
 
 from hinge.border.scratch import holding
 from hinge.border.terminal import standard_output
-from hinge.command import FULL, WRITING, Fault
+from hinge.command import NO_SPACE, WRITING, Fault
 
 COMMAND_LINE = 2  # the exit status
 Name = Union[str, Path, None]
@@ -109,7 +109,7 @@ def written(name: Union[str, Path]) -> Iterator[Path]:
         else:
             give_name(new, path, beside)
     except OSError as error:
-        if error.errno in FULL or (error.filename is None and error.errno in WRITING):
+        if error.errno in NO_SPACE or (error.filename is None and error.errno in WRITING):
             error.filename = str(name)  # the user's name, and not that of the new file or of the file that is copied
         raise
     finally:

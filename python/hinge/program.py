@@ -70,7 +70,7 @@ def clock() -> str:
     return program_named("HINGE_CLOCK", "hinge-clock.so", "built/hinge-clock.so", "release/hinge-clock.so")
 
 
-def packets() -> str:
+def packets_program() -> str:
     """Returns the path to the program that reads captures and writes packet rows; tools/release/hosts builds the program."""
     return program_named("HINGE_PACKETS", "hinge-packets", "built/hinge-packets", "release/hinge-packets")
 

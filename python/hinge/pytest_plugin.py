@@ -13,7 +13,7 @@ from typing import TYPE_CHECKING, Callable, Coroutine, Generator, Optional, Unio
 import pytest
 
 from hinge.testing import async_fixtures, table
-from hinge.testing.marks import fault_of, link_of, own_words, unused, vary_of
+from hinge.testing.marks import fault_mark, link_mark, own_words, unused, vary_of
 
 if TYPE_CHECKING:
     from hinge.net import Net
@@ -119,7 +119,7 @@ def udp_path(request: pytest.FixtureRequest, emulated_links: list[Emulated], lin
         if preset is not None:
             there, back = either_way(preset, there, back)
         elif there is None:
-            there, back = link_of(request.node)
+            there, back = link_mark(request.node)
             own = own_words(request.node)
         address = f"127.0.0.1:{server}" if isinstance(server, int) else server
         history = f"link{len(emulated_links) + 1}.history"
@@ -141,7 +141,7 @@ def sim_net(request: pytest.FixtureRequest, emulated_links: list[Emulated], link
 
     history = tmp_path / "link.history"
     item = request.node
-    there, back = link_of(item)
+    there, back = link_mark(item)
     trial = trial_of(item)
     seed = link_seed if trial.seed is None else trial.seed
     network = VariedNetwork(trial.variation or vary_of(item), trial.faults, seed=seed, history=history, options=there, back=back)
@@ -159,7 +159,7 @@ def net(request: pytest.FixtureRequest, emulated_links: list[Emulated], link_see
     from hinge.net import Net
     from hinge.testing.emulated import NetOfTest
 
-    there, back = link_of(request.node)
+    there, back = link_mark(request.node)
     net_of_test = Net(tmp_path / "net", seed=link_seed, link=there, back=back)
     emulated_links.append(NetOfTest(net_of_test, own_words(request.node)))
     return net_of_test
@@ -195,7 +195,7 @@ def pytest_pycollect_makeitem(collector: pytest.Collector, name: str, obj: objec
 def pytest_runtest_setup(item: pytest.Item) -> None:
     """Fails a test with a wrong word in its marks, and warns of marks without effect: either would leave the test without its
     link."""
-    fault = fault_of(item)
+    fault = fault_mark(item)
     if fault is not None:
         pytest.fail(fault, pytrace=False)
     for text in unused(item):
@@ -260,7 +260,7 @@ def seed_of(item: pytest.Item) -> int:
 
 def links_of(item: pytest.Item) -> list[str]:
     """Returns the options of `hinge run` for the words in a test's mark `link`, such as --up and `20ms`."""
-    there, back = link_of(item)
+    there, back = link_mark(item)
     ways = ("--up", there), ("--down", there if back is None else back)
     return [word for option, text in ways if text.strip() for word in (option, text)]
 
@@ -273,7 +273,7 @@ def pytest_runtest_protocol(item: pytest.Item, nextitem: Optional[pytest.Item]) 
     names = getattr(item, "fixturenames", ())
     if mark is None and "simulated_net" in names:
         mark = pytest.mark.simulated.mark
-    is_in_machine = mark is not None and INSIDE not in os.environ and fault_of(item) is None
+    is_in_machine = mark is not None and INSIDE not in os.environ and fault_mark(item) is None
     if not is_in_machine and not ("sim_net" in names and repeats(item)):
         return None  # a wrong mark is told by the test's setup
     item.ihook.pytest_runtest_logstart(nodeid=item.nodeid, location=item.location)

@@ -22,17 +22,17 @@ from hingetulip.library import LAST_MOMENT, LINE, NEVER, Handle, failure, reason
 from hingetulip.records import Delivery, Fate, FlowStatus
 
 NEITHER_OR_BOTH = "a packet is sent to a pipe or to a queue"
-NOTHING = memoryview(b"")
+NO_BYTES = memoryview(b"")
 pack_packet = PACKET.record.pack_into
 unpack_fate = FATE.record.unpack
 iterate_deliveries = DELIVERY.record.iter_unpack
 pack_moment = Struct("=Q").pack_into
 SECRET = Struct("=QQ")
-Line = Union[str, bytes, bytearray, memoryview]
+LineText = Union[str, bytes, bytearray, memoryview]
 Closable = TypeVar("Closable", bound="Closing")
 
 
-def encode_line(line: Line) -> bytes:
+def encode_line(line: LineText) -> bytes:
     """Returns a configuration line's bytes. Surrogates remain, so that the library reports text that isn't UTF-8."""
     return bytes(line) if isinstance(line, (bytes, bytearray, memoryview)) else line.encode("utf-8", "surrogatepass")
 
@@ -169,7 +169,7 @@ class Calls(ABC):
     def _flows(self) -> Any:
         """Returns the records of all flows."""
 
-    def configure(self, line: Line) -> None:
+    def configure(self, line: LineText) -> None:
         """Applies a configuration line, such as `pipe 1 config bw 8Mbit/s delay 20ms`. A line without words changes nothing.
 
         LineError: the line isn't a command. RefusedError: the pipe or queue doesn't exist, or a pipe to delete has queues.

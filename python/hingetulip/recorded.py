@@ -9,7 +9,7 @@ from typing import Any, Optional, Union
 
 from hingetulip.audits import MOST_BYTES, audit, parts
 from hingetulip.batches import Deliveries, Fates, Packets
-from hingetulip.calls import Line, Turn, encode_line, succeed
+from hingetulip.calls import LineText, Turn, encode_line, succeed
 from hingetulip.history_file import Recording
 from hingetulip.library import CALLS
 from hingetulip.records import Delivery, Fate, Verdict
@@ -31,7 +31,7 @@ class RecordedShaper(Shaper):
         self._recording = Recording(path)
         self._submit_entry = self._recording.entry(*self._submitted[1:])
 
-    def configure(self, line: Line) -> None:
+    def configure(self, line: LineText) -> None:
         text = encode_line(line)
         with self._recorded_turn:
             status = self._obeyed(text)

@@ -10,7 +10,7 @@ from random import Random
 from time import sleep
 from typing import Any, Callable, NoReturn, Optional, Union
 
-from hingetulip.calls import NOTHING, Calls, Closing, WaitingTurn, secret, succeed
+from hingetulip.calls import NO_BYTES, Calls, Closing, WaitingTurn, secret, succeed
 from hingetulip.errors import RangeError
 from hingetulip.history_file import HistoryFile
 from hingetulip.layout import DELIVERY, FLOW, Layout
@@ -85,7 +85,7 @@ class Caller(Calls):
         that copies them, and `_number` contains their number."""
         count = self._number.value
         if count == 0:
-            return NOTHING
+            return NO_BYTES
         records = (c_char * (layout.size * count))()
         succeed(copy_records(self._self, c_size_t(0), byref(records), c_size_t(count), byref(self._number)))
         return records

@@ -8,7 +8,7 @@ from struct import error as StructError
 from typing import Any, Callable, Optional
 
 from hingetulip.batches import Deliveries, Fates, Packets
-from hingetulip.calls import NEITHER_OR_BOTH, NOTHING, Calls, Closing, Turn, pack_packet, secret, succeed, error_of_fields
+from hingetulip.calls import NEITHER_OR_BOTH, NO_BYTES, Calls, Closing, Turn, pack_packet, secret, succeed, error_of_fields
 from hingetulip.errors import RangeError
 from hingetulip.layout import DELIVERY, FATE, FLOW, PIPE, QUEUE, Layout
 from hingetulip.library import CALLS, NEW_FLOW, ROOM, Handle, failure
@@ -42,7 +42,7 @@ class Listing:
             status = self.call(*arguments)
         succeed(status)
         count = self.count.value
-        return records[: self.size * count] if count else NOTHING
+        return records[: self.size * count] if count else NO_BYTES
 
 
 class Shaper(Calls, Closing):

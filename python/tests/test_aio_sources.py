@@ -19,7 +19,7 @@ import uuid
 from types import ModuleType
 
 from hingetulip import aio
-from hingetulip.aio.border import LIBRARY
+from hingetulip.aio.border import CLOCK_LIBRARY
 from simulated_hosts import TOP
 from with_folder import WithFolder
 
@@ -93,7 +93,7 @@ class Sources(unittest.TestCase):
         assert {text: 86_410.25 for text in listed(WALL)} == {text: float(found[text]) for text in listed(WALL)}
         assert {text: 10.25 for text in listed(GROWING)} == {text: float(found[text]) for text in listed(GROWING)}
 
-    @unittest.skipIf(LIBRARY is None, "no hinge-clock.so")
+    @unittest.skipIf(CLOCK_LIBRARY is None, "no hinge-clock.so")
     def test_numbers_and_names(self) -> None:
         texts = listed(SEED) + listed(OF_NUMPY) * (importlib.util.find_spec("numpy") is not None)
         first, again, other = answers(texts, 3, "1"), answers(texts, 3, "77"), answers(texts, 4, "1")
@@ -164,7 +164,7 @@ class WithClock(WithFolder):
         assert done.stdout.splitlines() == ["(1700000090000001000, 90000001000, 1700000090000001, 1700000090, True)", "True True"]
 
 
-@unittest.skipIf(LIBRARY is None or importlib.util.find_spec("OpenSSL") is None, "no hinge-clock.so or no python3-openssl")
+@unittest.skipIf(CLOCK_LIBRARY is None or importlib.util.find_spec("OpenSSL") is None, "no hinge-clock.so or no python3-openssl")
 class ClockOfOpenSSL(unittest.TestCase):
     def test_a_timer_of_dtls_runs_in_simulated_time(self) -> None:
         from OpenSSL import SSL

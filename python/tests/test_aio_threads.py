@@ -22,7 +22,7 @@ import pytest
 
 from hingetulip import aio
 from hingetulip.aio import baton
-from hingetulip.aio.border import LIBRARY
+from hingetulip.aio.border import CLOCK_LIBRARY
 from hingetulip.aio.extra import whole
 from test_aio_real import run_alone
 
@@ -198,7 +198,7 @@ class Threads(unittest.TestCase):
         done = run_alone("import ctypes; del ctypes.PyDLL; import hingetulip")  # as with PyPy
         assert "ImportError: hingetulip needs CPython, and this is cpython" in done.stderr
 
-    @unittest.skipIf(LIBRARY is None, "no hinge-clock.so")
+    @unittest.skipIf(CLOCK_LIBRARY is None, "no hinge-clock.so")
     def test_a_thread_in_c_draws_while_another_keeps_pythons_lock(self) -> None:
         done = run_alone(
             """
@@ -218,7 +218,7 @@ class Threads(unittest.TestCase):
 
 
 class Told(unittest.TestCase):
-    @unittest.skipIf(LIBRARY is None, "no hinge-clock.so")
+    @unittest.skipIf(CLOCK_LIBRARY is None, "no hinge-clock.so")
     def test_a_connection_made_before_the_run_and_processes(self) -> None:
         async def main() -> str:
             assert b"x" == (near.send(b"x") and far.recv(1))
@@ -232,7 +232,7 @@ class Told(unittest.TestCase):
         for text in (r"real: \S+ send\n", r"real: \S+ recv\n", "real: subprocess.Popen\n"):
             assert re.search(text, report)
 
-    @unittest.skipIf(LIBRARY is None, "no hinge-clock.so")
+    @unittest.skipIf(CLOCK_LIBRARY is None, "no hinge-clock.so")
     def test_c_code_that_waits_in_a_thread_of_the_run(self) -> None:
         def wait() -> None:
             with tempfile.TemporaryDirectory() as folder:
@@ -247,7 +247,7 @@ class Told(unittest.TestCase):
             (called,) = net.real_uses.all()
         assert "sqlite3" in called and "sleep" in called
 
-    @unittest.skipIf(LIBRARY is None, "no hinge-clock.so")
+    @unittest.skipIf(CLOCK_LIBRARY is None, "no hinge-clock.so")
     def test_names_that_the_systems_resolver_is_asked_for(self) -> None:
         async def main() -> None:
             ctypes.CDLL(None).gethostbyname(b"localhost")

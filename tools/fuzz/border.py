@@ -42,7 +42,7 @@ from tshark_frames import frames_by_kit, frames_by_tshark  # noqa: E402
 
 import hinge.checks.lines  # noqa: E402
 from hinge import command  # noqa: E402
-from hinge.border.messages import Order, Reply, Strange, line_of, read_message  # noqa: E402
+from hinge.border.messages import Order, Reply, Strange, message_line, read_message  # noqa: E402
 from hinge.border.serving import Client, answered  # noqa: E402
 from hinge.captures.addresses import read_addresses  # noqa: E402
 from hinge.net.description import read_description  # noqa: E402
@@ -50,7 +50,7 @@ from hinge.net.net_plan import NetPlan  # noqa: E402
 from hinge.paths.folder import told_drops  # noqa: E402
 from hinge.paths.passages import Topology  # noqa: E402
 from hinge.run.control import Control  # noqa: E402
-from hinge.run.host_lines import Answer  # noqa: E402
+from hinge.run.host_lines import LinkReply  # noqa: E402
 from hinge.run.page import Page  # noqa: E402
 from hinge.run.plan import Plan  # noqa: E402
 
@@ -141,7 +141,7 @@ def run_of(folder: str) -> Control:
     plan = Plan()
     plan.link("pipe 1 config delay 5"), plan.link("pipe 2 config delay 5")
     made = Control(f"{folder}/socket", plan, Page(), plan.read, lambda: {"came": 0})
-    made.lines.ask = lambda text, until=None, is_wanted=None: Answer(5, "", "pipe 1 config\npipe 1 config")  # type: ignore
+    made.lines.ask = lambda text, until=None, is_wanted=None: LinkReply(5, "", "pipe 1 config\npipe 1 config")  # type: ignore
     return made
 
 
@@ -154,7 +154,7 @@ def control(data: bytes, rng: random.Random) -> None:
             told = Reply(refused=str(strange))
         assert isinstance(told, Reply)
         assert not (told.refused or "").startswith("it can't be obeyed"), told.refused
-        read_message(Reply, line_of(told))
+        read_message(Reply, message_line(told))
     run.end(), os.close(run.server.spare), here.close(), there.close()
     run.lines.own.close(), run.lines.hosts.close(), run.page.memory.close(), os.close(run.page.descriptor)
 

@@ -21,7 +21,7 @@ from installs import copied
 from pytests import interpreter
 from tally import TOP, Ran, Tally, judge, ran
 
-from hinge.foreign import answer_of
+from hinge.foreign import replacement_of
 
 PAGE = (TOP / "README.md").read_text()
 BLOCK = re.compile(r"^```(\w*)\n(.*?)^```$", re.M | re.S)
@@ -142,7 +142,7 @@ def table(typed: Typed) -> None:
     net = list[str]()
     for left, right in rows():
         words = CODE.findall(left)[0]
-        answer = answer_of(shlex.split(words)) if "(" not in words else None
+        answer = replacement_of(shlex.split(words)) if "(" not in words else None
         commands = [code for code in CODE.findall(right) if code.startswith(("hinge run", "sudo"))]
         typed.tally.note(
             f"hinge {words}", "" if answer is None or answer.write in commands + ["", *config(words)] else answer.text()

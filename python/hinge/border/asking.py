@@ -11,7 +11,7 @@ from dataclasses import replace
 from itertools import count
 from typing import Iterator
 
-from hinge.border.messages import Lines, Order, Reply, Strange, line_of, read_message
+from hinge.border.messages import Lines, Order, Reply, Strange, message_line, read_message
 from hinge.border.scratch import holding
 from hinge.run.names import running, socket_of
 from hinge.run.words import Wrong
@@ -73,7 +73,7 @@ def asked_at(path: str, order: Order, patience: float = PATIENCE) -> tuple[Reply
     Wrong: no run answers in time, the run refuses the order or ends, or the reply belongs to another order."""
     order = replace(order, number=next(NUMBERS))
     with connected(path, patience) as connection:
-        connection.sendall(line_of(order))
+        connection.sendall(message_line(order))
         lines = Lines(connection, LONGEST_REPLY, MOST_DOORS)
         try:
             text = lines.next(patience)
@@ -110,7 +110,7 @@ def is_answered(path: str) -> bool:
     return reached(path) == 0
 
 
-def answer_of(path: str, words: str) -> str:
+def reply_to(path: str, words: str) -> str:
     """Sends a line to a simulated machine's first process, which listens at `path`; returns the reply."""
     with socket.socket(socket.AF_UNIX, socket.SOCK_STREAM) as connection:
         connection.connect(path)

@@ -8,7 +8,7 @@ import time
 from dataclasses import dataclass
 from typing import Callable, NamedTuple, Optional, Sequence
 
-from hinge.border.messages import Reply, Strange, line_of
+from hinge.border.messages import Reply, Strange, message_line
 
 PATIENCE = 10.0  # s for which a client may be idle, or the run may work on an order
 LONGEST_ORDER = 1 << 16  # bytes
@@ -48,7 +48,7 @@ class Client:
         """Sets the answer to send, which ends the work on the client's order."""
         self.is_busy = False
         self.answer = answer
-        self.out = line_of(answer.reply)
+        self.out = message_line(answer.reply)
         self.until = time.monotonic() + PATIENCE
 
     def send(self) -> None:

@@ -79,7 +79,7 @@ def read_message(kind: type[Kind], text: bytes) -> Kind:
         raise Strange(f"no message of the form {', '.join(part.name for part in fields(kind))}") from None
 
 
-def line_of(message: Union[Order, Reply]) -> bytes:
+def message_line(message: Union[Order, Reply]) -> bytes:
     """Returns a message as a line of JSON, without the fields that are None, False or 0."""
     parts = {key: value for key, value in asdict(message).items() if value not in (None, False)}
     return json.dumps(parts).encode() + b"\n"

@@ -59,7 +59,7 @@ def alone(folder: str, patience: float) -> Iterator[None]:
         yield
 
 
-class Ended(BaseException):
+class SignalEnd(BaseException):
     """Raised when a signal ends this process."""
 
 
@@ -196,7 +196,7 @@ def deferred(numbers: Sequence[int], cuts: bool) -> Iterator[None]:
         arrivals.append(number)
         if cuts and time.monotonic() > until:
             until = time.monotonic() + TOGETHER
-            raise KeyboardInterrupt if number == signal.SIGINT else Ended
+            raise KeyboardInterrupt if number == signal.SIGINT else SignalEnd
 
     try:
         for number in handlers:

@@ -15,7 +15,7 @@ from hinge.border.programs import PIPE, Process, begun, how_ended
 from hinge.border.scratch import unnamed
 from hinge.captures.capture_reader import plain_capture
 from hinge.command import FILES, ROWS, Fault, say
-from hinge.program import packets
+from hinge.program import packets_program
 
 NAME = "hinge-packets"
 PORTED = {6: "tcp", 17: "udp", 132: "sctp", 136: "udp", 33: "dccp"}
@@ -137,7 +137,7 @@ class Capture:
         src, dst, sport, dport, proto, dscp = FLOW.unpack_from(self.flows, flow * FLOW.size)
         return Frame(number, self.address(src), self.address(dst), proto, sport, dport, dscp)
 
-    def packets(self) -> Iterator[Packet]:
+    def packets_program(self) -> Iterator[Packet]:
         """Yields all packets in order of time, if the program answered by frame."""
         for low, high, number, flow, length in FRAME.iter_unpack(self.items or b""):
             yield Packet(self.frame(number & (1 << 48) - 1, flow), (high << 64) + low, length, number >> 48)
@@ -180,7 +180,7 @@ def read_capture(capture: Input, plan: RowPlan, out: int, index: Optional[int] =
             files.callback(os.close, number)
         descriptors = copies if index is not None else [*copies, -1]
         numbers = [*descriptors, plan.mtu, min(plan.rate, FASTEST), plan.l2, plan.seed, int(by_frame)]
-        words = [packets(), *map(str, numbers)]
+        words = [packets_program(), *map(str, numbers)]
         program = files.enter_context(begun(words, stdin=PIPE, stdout=PIPE, stderr=PIPE, pass_fds=copies))
         files.callback(program.kill)
         with untrusted(capture.name):

@@ -10,7 +10,7 @@ from typing import NamedTuple, Optional, Union
 
 from hinge.arguments import RULE
 
-Net = Union[ipaddress.IPv4Network, ipaddress.IPv6Network]
+IpNetwork = Union[ipaddress.IPv4Network, ipaddress.IPv6Network]
 WAYS = {"up": 0, "down": 1}
 PROTOCOLS = {"icmp": (1, 58), "icmp6": (58,), "tcp": (6,), "udp": (17,)}  # `icmp` means ICMP of IPv4 and of IPv6
 PORTS = {"port": "port", "sport": "sport", "src-port": "sport", "dport": "dport", "dst-port": "dport"}
@@ -62,11 +62,11 @@ class Short:
     way: Optional[int] = None
     protocols: tuple[int, ...] = ()
     dscp: Optional[int] = None
-    nets: dict[str, Net] = field(default_factory=dict)
+    nets: dict[str, IpNetwork] = field(default_factory=dict)
     ports: dict[str, PortSpan] = field(default_factory=dict)
 
 
-def address_net(text: str) -> Net:
+def address_net(text: str) -> IpNetwork:
     try:
         return ipaddress.ip_network(text, strict=False)
     except ValueError as error:

@@ -8,7 +8,7 @@ from typing import Callable, Optional, Sequence
 
 from hinge.captures.frames import MAPPED, PORTED, FrameColumns
 from hinge.captures.random_words import direction_of
-from hinge.captures.rule_words import BadRule, Net, PortSpan, RuleTarget, Short, address_net, parted, short_of
+from hinge.captures.rule_words import BadRule, IpNetwork, PortSpan, RuleTarget, Short, address_net, parted, short_of
 
 Mask = list[bool]  # whether each frame passes
 Test = Callable[[FrameColumns], Mask]
@@ -31,7 +31,7 @@ class MapRule:
         return not self.tests and self.way is None
 
 
-def is_within(name: str, network: Net) -> Test:
+def is_within(name: str, network: IpNetwork) -> Test:
     """Returns a test whether the source, the destination, or either of them (`host`) is in a network."""
     base = int(network.network_address)
     if network.version == 4:

@@ -12,7 +12,7 @@ from hinge.command import ROWS, Fault
 
 EXAMPLE = '{"client": 1, "key": "x", "op": "write", "value": 5, "begin": 0.25, "end": 0.31}'
 SHOWN = 80  # the letters of a value that messages show
-NEVER = math.inf
+NO_END = math.inf
 ALWAYS = -math.inf
 LATEST = 2.0**63  # the greatest moment, which is also possible in ns
 NULL = "null"  # in JSON: a register before its first write, or an empty queue
@@ -32,12 +32,12 @@ class Operation:
     op: str
     words: dict[str, str]
     begin: float
-    end: float = NEVER
+    end: float = NO_END
     values: tuple[str, ...] = ()  # the values that a read showed
 
     @property
     def is_over(self) -> bool:
-        return self.end < NEVER
+        return self.end < NO_END
 
     @property
     def value(self) -> str:
@@ -50,7 +50,7 @@ class Operation:
     def anywhen(self) -> Operation:
         """Returns the operation without a result, and without limits on its moment."""
         words = {name: text for name, text in self.words.items() if name != "result"}
-        return replace(self, words=words, begin=ALWAYS, end=NEVER, values=())
+        return replace(self, words=words, begin=ALWAYS, end=NO_END, values=())
 
     def told(self) -> str:
         """Returns the operation as text."""
@@ -79,7 +79,7 @@ class Model:
         self.is_unique = len({NULL, *values}) > len(values)  # whether each value is made once
         for operation in operations:
             for text in self.shown(operation) if operation.is_over else ():
-                self.sights[text] = min(operation.end, self.sights.get(text, NEVER))
+                self.sights[text] = min(operation.end, self.sights.get(text, NO_END))
         self.operations = [settled for operation in operations for settled in self.settled(operation)]
 
     def settled(self, operation: Operation) -> Iterator[Operation]:
@@ -183,7 +183,7 @@ class Members(Model):
         return int(state) | self.bit(operation.value)
 
 
-class Queue(Model):
+class QueueModel(Model):
     """A first-in, first-out queue; `get` with `null` found the queue empty. The state lists the values."""
 
     words = {"put": ("value",), "get": ("result",)}
@@ -245,7 +245,7 @@ class Lock(Model):
         return () if state == (operation.client,) else None
 
 
-MODELS = {"register": Model, "cas": Exchange, "set": Members, "queue": Queue, "list": Sequence, "lock": Lock}
+MODELS = {"register": Model, "cas": Exchange, "set": Members, "queue": QueueModel, "list": Sequence, "lock": Lock}
 
 
 def operation_of(line: int, text: bytes, model: type[Model]) -> Optional[tuple[str, Operation]]:
@@ -277,7 +277,7 @@ def operation_of(line: int, text: bytes, model: type[Model]) -> Optional[tuple[s
         texts = [text_of(value) for value in row["result"]] if isinstance(row["result"], list) else []
         if not isinstance(row["result"], list) or not model.shows_twice and len(set(texts)) < len(texts):
             raise ValueError(f"result: write the list of all values{'' if model.shows_twice else ' in the set, each once'}")
-    operation = Operation(line, str(row["client"]), row["op"], words, begin, NEVER if end is None else end, tuple(texts))
+    operation = Operation(line, str(row["client"]), row["op"], words, begin, NO_END if end is None else end, tuple(texts))
     return (text_of(row["key"]), operation) if row.get("ok", True) else None
 
 

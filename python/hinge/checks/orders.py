@@ -9,7 +9,7 @@ from typing import Hashable, Iterator, Optional
 
 from hinge.border.terminal import printable, several, show, tell
 from hinge.checks.findings import MOST_FAULTS, Findings
-from hinge.checks.operations import MODELS, Model, Operation, Places, Queue, operations_of
+from hinge.checks.operations import MODELS, Model, Operation, Places, QueueModel, operations_of
 from hinge.checks.queues import first_breach
 from hinge.command import ROWS
 
@@ -100,7 +100,7 @@ class Search:
 def first_impossible(operations: list[Operation], kind: type[Model], most: int = MOST) -> Optional[Operation]:
     """Returns the operation at whose end no order remains, or None. TooMany: the search is too large."""
     model = kind(operations)
-    if isinstance(model, Queue) and model.is_unique:
+    if isinstance(model, QueueModel) and model.is_unique:
         decides, breach = first_breach(model.operations)
         if decides:
             return breach

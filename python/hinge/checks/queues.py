@@ -9,7 +9,7 @@ from itertools import accumulate
 from operator import attrgetter
 from typing import Iterator, Optional
 
-from hinge.checks.operations import ALWAYS, NEVER, NULL, Operation
+from hinge.checks.operations import ALWAYS, NO_END, NULL, Operation
 
 END = attrgetter("end")
 
@@ -32,7 +32,7 @@ class Rules:
     def surely_there_until(self, put: Operation) -> float:
         if put.value in self.first:
             return self.first[put.value].begin
-        return ALWAYS if self.silent else NEVER
+        return ALWAYS if self.silent else NO_END
 
     def until(self, moment: float) -> float:
         """Returns the moment until which the queue surely contains a value that was put before `moment`."""

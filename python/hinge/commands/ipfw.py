@@ -10,7 +10,7 @@ from hinge.border.files import lines_in, told_name, untrusted
 from hinge.command import CONFIGURATION, Fault, new_parser, say
 from hinge.command_line import add
 from hinge.configurations.ipfw_lines import Conversion
-from hinge.foreign import answer_of
+from hinge.foreign import replacement_of
 from hinge.outputs import refuse_inputs, writing
 
 WHAT = """\
@@ -35,7 +35,7 @@ def main() -> None:
     add(parser, "files file", "files in the order in which they are run (default: standard input)", nargs="*", default=["-"])
     parser.add_argument("-o", metavar="FILE", help="the configuration (default: standard output)")
     if not any(map(os.path.exists, sys.argv[1:])):
-        answer = answer_of(["ipfw", *sys.argv[1:]])
+        answer = replacement_of(["ipfw", *sys.argv[1:]])
         if answer is not None:
             parser.error(f"it reads files, and this is a line of ipfw; {answer.text()}")
     arguments = parser.parse_args()

@@ -10,7 +10,7 @@ from typing import Sequence
 from hinge.command import new_parser
 from hinge.command_line import add, Parser
 from hinge.events.forms import help_lines
-from hinge.foreign_options import OF_LINK
+from hinge.foreign_options import LINK_OPTIONS
 from hinge.run.options import add_foreign, mtu, seed
 from hinge.run.settings import NetOptions
 from hinge.simulated.failures import repeated_net
@@ -47,7 +47,7 @@ OF_RUN = {
     "--timeline": "lines as `at 5s A B 1Mbit/s` in FILE",
     "--topo": "lines `host h1`, `host h2` and `link h1 h2 10Mbit/s 20ms` in FILE",
     "--seeds": "hinge search FILE --seeds {}",
-    **dict.fromkeys(OF_LINK, "a line `link A B 10Mbit/s 20ms loss 1%` in FILE"),
+    **dict.fromkeys(LINK_OPTIONS, "a line `link A B 10Mbit/s 20ms loss 1%` in FILE"),
 }
 EXAMPLE = """\
 hinge net examples/net/etcd.net --transcripts session --control net.socket

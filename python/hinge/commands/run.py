@@ -106,11 +106,11 @@ def main() -> None:
     if not run.simulated:
         begin(run)
     from hinge.run.plan_of_options import plan_of
-    from hinge.run.two_hosts import ends_of
+    from hinge.run.two_hosts import two_ends
     from hinge.simulated import start
 
     # These two calls refuse a wrong word before a machine is built.
-    ends_of(run.net)
+    two_ends(run.net)
     plan_of(run, run.mtu)
     tell_hints(run)
     sys.exit(start.run_simulated(run))
@@ -130,18 +130,18 @@ def begin(run: RunOptions) -> NoReturn:
     from hinge.run.host import program
     from hinge.run.inside import Inside
     from hinge.run.joined import network_of
-    from hinge.run.order import order_of
+    from hinge.run.order import run_order
     from hinge.run.outside import Outside
     from hinge.run.ports import Ports
     from hinge.run.rooms import leave_the_system
     from hinge.run.system import is_simulated
-    from hinge.run.two_hosts import ends_of
+    from hinge.run.two_hosts import two_ends
 
     mask = signal.pthread_sigmask(signal.SIG_BLOCK, ())
     program()
-    ends = ends_of(run.net)
+    ends = two_ends(run.net)
     network = network_of(run.netns) if run.netns is not None else None
-    order = order_of(run, run.mtu, mask, run.server_wait, run.server_end)
+    order = run_order(run, run.mtu, mask, run.server_wait, run.server_end)
     signal.pthread_sigmask(signal.SIG_BLOCK, BLOCKED)  # only now, since reading a file may wait for a FIFO's writer
     if not is_simulated():
         tell_hints(run)

@@ -15,7 +15,7 @@ from hinge.border.terminal import blocks, show
 from hinge.command import filled, new_parser
 from hinge.outputs import written
 from hinge.replays.explain import Explainer
-from hinge.replays.history import read_history
+from hinge.replays.history import read_history_source
 from hinge.replays.replay import FULL, LOST, OUT, Replay
 from hingetulip_words.link import in_full, read_link
 from hingetulip_words.presets import preset
@@ -185,7 +185,7 @@ def output(path: Path, name: str, links: tuple[str, str], kept: Optional[str]) -
     began = time.monotonic()
     transfer = Download(path, links)
     transfer.run()
-    source = read_history(str(path))
+    source = read_history_source(str(path))
     replay = source.replay
     row = longest(replay)
     yield f"3 MB come down over the preset {name}: {links[1]}.\nAcknowledgements go up over {links[0]}.\n"

@@ -17,9 +17,9 @@ from hinge.checks.lines import refuse_wrong
 from hinge.command import FILES, new_parser
 from hinge.command_line import add, Parser
 from hinge.replays.units import socket_address
-from hinge.run.host import Link, program
+from hinge.run.host import LinkProcess, program
 from hinge.run.options import add_link, add_run
-from hinge.run.order import Order, note_realtime, order_of, report
+from hinge.run.order import RunOrder, note_realtime, run_order, report
 from hinge.run.page import Page
 from hinge.run.processes import Processes, Ticker
 from hinge.run.settings import LiveOptions
@@ -112,7 +112,7 @@ def bound_socket(address: SocketAddress) -> socket.socket:
     return sock
 
 
-def forward_datagrams(order: Order, front: socket.socket, server: tuple[str, int]) -> int:
+def forward_datagrams(order: RunOrder, front: socket.socket, server: tuple[str, int]) -> int:
     """Forwards datagrams between a socket and the server until a signal arrives; returns the exit status."""
     page = Page()
     processes = Processes(SIGNALS)
@@ -122,7 +122,7 @@ def forward_datagrams(order: Order, front: socket.socket, server: tuple[str, int
 
     control = order.control(page, lambda: record(page.read(), dropped(), None, order.seed, []))
     words = ["udp", str(front.fileno()), server[0], str(server[1])]
-    link = Link(processes, page, words, [front.fileno()], order.plan, order.mask, control)
+    link = LinkProcess(processes, page, words, [front.fileno()], order.plan, order.mask, control)
     fault = link.failed()
     if fault is not None:
         return fault
@@ -147,7 +147,7 @@ def main() -> None:
     program()
     lines = [*arguments.pop("line"), *lines_of_links(links)]
     files = [word for word in links if " " not in word]
-    order = order_of(LiveOptions(**arguments, line=lines, more_files=files), LONGEST, mask)
+    order = run_order(LiveOptions(**arguments, line=lines, more_files=files), LONGEST, mask)
     if any(extra.corrupt for extra, _ in order.link_plan.extras.values()):
         raise Wrong("corrupt: each datagram is sent with a checksum of its own, which no flipped bit breaks; write loss 1%")
     signal.pthread_sigmask(signal.SIG_BLOCK, SIGNALS)  # only now, since reading a file may wait for a FIFO's writer

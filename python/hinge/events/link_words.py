@@ -7,7 +7,7 @@ from typing import Callable, Optional
 from hinge.arguments import is_number
 from hinge.events.forms import OUTAGE, PROTOCOLS
 from hinge.events.kinds import Event, HoldingOutage, LossyOutage, NewLine, NewWords, Port
-from hinge.run.words import WAYS, Wrong, bare, first_word, is_line, length_of, link_of
+from hinge.run.words import WAYS, Wrong, bare, first_word, is_line, length_of, read_link_words
 from hingetulip_words.link import NO_WORDS
 
 TwoWays = Callable[[str], "tuple[str, str]"]
@@ -56,5 +56,5 @@ def link_event(text: str, option: str, ends: str = "", link: int = 0, is_back: b
         return NewLine(ways, typed, line=rest)
     if not rest:
         raise Wrong(NO_WORDS)
-    links = tuple(link_of(words, option) for _, words in zip(ways, both_ways(rest)))
+    links = tuple(read_link_words(words, option) for _, words in zip(ways, both_ways(rest)))
     return NewWords(ways, typed, links=links, ends=ends, side=side)

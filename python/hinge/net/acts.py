@@ -16,7 +16,7 @@ from typing import Callable, Iterator, NamedTuple, Optional
 from hinge.border.messages import ObeyedLine
 from hinge.events.forms import ENDS
 from hinge.events.kinds import PlannedAct
-from hinge.run.host_lines import PATIENCE, HostLines
+from hinge.run.host_lines import LINK_PATIENCE, HostLines
 from hinge.run.processes import Ticker, signal_group
 from hinge.run.words import SECOND, Wrong
 
@@ -243,7 +243,7 @@ class Acts(Ticker):
         self.asked.put((acts, reply))
         os.kill(os.getpid(), signal.SIGCHLD)  # wakes the thread that carries out the acts
         try:
-            result = reply.get(timeout=PATIENCE)
+            result = reply.get(timeout=LINK_PATIENCE)
         except queue.Empty:
             raise Wrong("the net doesn't do it: it ends") from None
         return ObeyedLine(result.moment, f"{acts[0].word} {acts[0].host}")

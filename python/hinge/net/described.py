@@ -6,7 +6,7 @@ import shlex
 from pathlib import Path
 from typing import Optional, Sequence, Union
 
-from hinge.run.words import Wrong, link_of
+from hinge.run.words import Wrong, read_link_words
 from hingetulip_words.link import Place
 from hingetulip_words.presets import either_way
 
@@ -75,7 +75,7 @@ class Described:
         ways = [link or ""] if back is None else [link or "", back]
         for way in ways:
             try:
-                link_of(way, "the link", Place.KERNELS)
+                read_link_words(way, "the link", Place.KERNELS)
             except Wrong as wrong:
                 raise NetError(str(wrong)) from None
         return " / ".join(ways) if any(ways) else ""

@@ -8,7 +8,7 @@ import shutil
 from itertools import count
 from typing import TYPE_CHECKING, Iterable, NamedTuple
 
-from hinge.border.asking import answer_of
+from hinge.border.asking import reply_to
 from hinge.net.statements import Statement
 from hinge.run.system import NEWNS, Missing, join, unshare
 from hinge.run.words import Wrong
@@ -92,7 +92,7 @@ class Disks:
         """Makes the simulated machine's first process create a host's disks (`make`), or drop their unsynced writes (`lose`).
         Missing: the request failed."""
         for number, disk in self.of[host]:
-            answer = answer_of(PLACE, f"{does} {number} {disk.size} {self.mounts[host][1]} {disk.path}")
+            answer = reply_to(PLACE, f"{does} {number} {disk.size} {self.mounts[host][1]} {disk.path}")
             if answer != "done":
                 raise Missing(f"disk {host} {disk.path}: {answer}")
 

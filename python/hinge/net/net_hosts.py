@@ -13,7 +13,7 @@ from hinge.border.terminal import silence
 from hinge.border.programs import can_be_read
 from hinge.events.kinds import PlannedAct
 from hinge.net.acts import Acts, GroupProcesses, HostProcesses, sees_own_processes
-from hinge.run.cgroups import OF_LINKS, Cgroup, Cgroups
+from hinge.run.cgroups import LINKS_FILES, Cgroup, Cgroups
 from hinge.net.clocks import clock_number, set_clock, take_clock
 from hinge.net.disks import Disks
 from hinge.net.net_rooms import NetRooms
@@ -53,7 +53,7 @@ class NetHosts:
         self.cgroups = Cgroups()
         self.waits = Waits()
         self.linked = self.linked_hosts()
-        self.descriptors = {name: [cgroup.descriptors[file] for file in OF_LINKS] for name, cgroup in self.linked.items()}
+        self.descriptors = {name: [cgroup.descriptors[file] for file in LINKS_FILES] for name, cgroup in self.linked.items()}
         self.links_plan = LinksPlan(order, self.rooms.ends, self.descriptors)
         self.is_of_links = self.links_plan.is_of_links
         ticker = None if is_simulated() else Ticker(self.look_at_waits)

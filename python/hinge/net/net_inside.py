@@ -18,7 +18,7 @@ from hinge.net.net_hosts import NetHosts
 from hinge.net.net_summary import NetRan, report_net, silent, status_without
 from hinge.net.order import NetOrder
 from hinge.net.parts import Wait
-from hinge.run.host import Link
+from hinge.run.host import LinkProcess
 from hinge.run.interfaces import something_listens
 from hinge.run.outside import Outside
 from hinge.run.page import HAS_IT, NOT_ALLOWED
@@ -44,14 +44,14 @@ class NetInside(NetHosts):
         self.missing = ""  # the message about a required port at which nothing listens, so that the net ends
         self.main_moment: Optional[int] = None  # the moment in ns on the links' clock when the main command began
 
-    def started_links(self) -> Link:
+    def started_links(self) -> LinkProcess:
         """Starts and returns the process that emulates all links. Acts on hosts don't affect this process."""
         enter(self.network)
         descriptors = [*self.rooms.descriptors(), *chain(*self.descriptors.values())]
         words = ["tun", *map(str, self.rooms.interfaces)]
         text = self.links_plan.text()
         control = opened_control(self)
-        return Link(self.processes, self.page, words, descriptors, text, self.order.mask, control, self.lines)
+        return LinkProcess(self.processes, self.page, words, descriptors, text, self.order.mask, control, self.lines)
 
     def begin_commands(self) -> Optional[int]:
         """Starts all commands except the main command, and waits until each has begun; returns the signal that ends the wait
@@ -115,7 +115,7 @@ class NetInside(NetHosts):
             self.begin(self.net.main)
         return self.started.get(self.net.main or "")
 
-    def lasted(self, link: Link) -> int:
+    def lasted(self, link: LinkProcess) -> int:
         """Starts the commands, and waits until the main command ends (all commands, if there is no main command) or a signal
         arrives; returns the status."""
         came = self.begin_commands() or self.waited()

@@ -21,7 +21,7 @@ from hinge.net.net_rooms import own_addresses
 from hinge.net.statements import Statement, Unobeyed
 from hinge.run.changes import Change, Changes, Happening
 from hinge.run.plan import Plan
-from hinge.run.words import LAST_MOMENT, Wrong, link_of, placed, renumbered, target_of
+from hinge.run.words import LAST_MOMENT, Wrong, read_link_words, placed, renumbered, target_of
 from hingetulip_words.explained import explained
 from hingetulip_words.link import Place
 
@@ -64,7 +64,7 @@ class NetPlan:
         self.rest = Budget(MOST_SAID, "events of links and hosts")
         for number, link in enumerate(net.links):
             for way, text in enumerate(link.ways):
-                words = link_of(text, link.statement.place, Place.KERNELS)
+                words = read_link_words(text, link.statement.place, Place.KERNELS)
                 self.configure(link.statement, words.line(2 * number + way + 1))
                 self.plan.words(2 * number + way, words)
         for add in (self.line, self.loss, self.faults, self.map, self.trace, self.at, self.nemesis):

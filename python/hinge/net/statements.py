@@ -9,7 +9,7 @@ from typing import Iterable, Iterator, Sequence
 
 from hinge.command import CONFIGURATION
 from hinge.events.forms import line_meant
-from hinge.run.words import LONGEST, Wrong, bare, first_word, length_of, placed, read_lines
+from hinge.run.words import LONGEST_FILE_LINE, Wrong, bare, first_word, length_of, placed, read_lines
 from hingetulip_words.presets import preset
 
 UNKNOWN_HOST = "no host of this net"
@@ -136,8 +136,8 @@ def all_statements(path: str) -> Iterator[Statement]:
         if not start:
             first = number
         line = start + line.strip()
-        if len(line) > LONGEST:
-            raise Wrong(f"{path} line {first}: with the lines behind it, it has more than {LONGEST:,} letters")
+        if len(line) > LONGEST_FILE_LINE:
+            raise Wrong(f"{path} line {first}: with the lines behind it, it has more than {LONGEST_FILE_LINE:,} letters")
         start = line[:-1].rstrip() + " " if line.endswith("\\") else ""
         if start or line.startswith("#"):
             continue

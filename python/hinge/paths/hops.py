@@ -12,7 +12,7 @@ from hinge.paths.folder import session_of, told_drops
 from hinge.paths.matching import NONE, Matched, match
 from hinge.paths.passages import BETWEEN, read_transcript
 from hinge.replays.explain import Explainer
-from hinge.replays.history import read_history
+from hinge.replays.history import read_history_source
 from hinge.replays.replay import OUT
 from hinge.replays.units import ms
 
@@ -31,7 +31,7 @@ class Hops:
         self.folder = folder
         self.passages = passages
         self.hosts = passages.topology.hosts
-        self.explainer = lru_cache(maxsize=None)(lambda path: Explainer(read_history(path).explained()))
+        self.explainer = lru_cache(maxsize=None)(lambda path: Explainer(read_history_source(path).explained()))
 
     def paragraph(self, number: int) -> str:
         """Describes a packet's path from its first link on; `number` counts the transcript's packets, from 1, once on each link.

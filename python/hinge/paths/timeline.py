@@ -12,7 +12,7 @@ from hinge.border.terminal import blocks
 from hinge.lazy import Reals, np
 from hinge.paths.matching import Matched, last_moment
 from hinge.paths.report import WayFigures
-from hinge.pictures.provenance import BY_MODEL
+from hinge.pictures.provenance import LOSS_BY_MODEL
 from hinge.replays.remarks import KINDS, Lateness, late_remark
 from hinge.replays.replay import OUT
 
@@ -88,7 +88,7 @@ def with_model(matching: Matched, change: WayChange) -> str:
     """Returns a change's words. If a model such as gilbert decides about losses, the words name the model instead of a
     rate."""
     model = matching.passages.topology.models.get(change.pipe)
-    return BY_MODEL.sub(f"loss {model}", change.words) if model else change.words
+    return LOSS_BY_MODEL.sub(f"loss {model}", change.words) if model else change.words
 
 
 def timeline_of(matching: Matched, lines: list[tuple[int, str]]) -> Timeline:

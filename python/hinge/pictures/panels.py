@@ -8,7 +8,7 @@ from typing import Callable, Iterator, Optional
 from hinge.arguments import PICTURE_FLOWS
 from hinge.lazy import Integers, Reals, np
 from hinge.pictures.drawing import DASHED, DENSE, DOTTED, MIXED, SOLID, Band, Bars, Drawing, Item, Key, Line, Panel, Points
-from hinge.pictures.series import CAUSES, NS_PER_MS, NS_PER_S, Flow, Series, Steps, spread
+from hinge.pictures.series import CAUSES, NS_PER_MS, NS_PER_S, Flow, Series, TimeSteps, spread
 from hinge.pictures.settings import A_FLOW
 from hinge.replays.groups import order_of
 from hinge.replays.remarks import LEAST_LATE
@@ -40,7 +40,7 @@ def range_of(values: Reals, unit: str) -> str:
     return f"{low:g} to {high:g} {unit}"
 
 
-def percentiles(moments: Integers, values: Reals, steps: Steps) -> Reals:
+def percentiles(moments: Integers, values: Reals, steps: TimeSteps) -> Reals:
     """Returns the 5th, 50th and 95th percentile of each step's values; nan for empty steps."""
     of = np.minimum(moments // steps.length, steps.rated - 1)
     order = np.argsort(values)
@@ -66,7 +66,7 @@ class Panels:
     def __init__(self, flows_in_time: Series) -> None:
         self.series = flows_in_time
         self.step = time_of(flows_in_time.steps.length)
-        self.of_bands = Steps(max(flows_in_time.steps.length // BANDS_A_STEP, 1), flows_in_time.steps.span)
+        self.of_bands = TimeSteps(max(flows_in_time.steps.length // BANDS_A_STEP, 1), flows_in_time.steps.span)
         rests = [number for number, flow in enumerate(flows_in_time.flows) if flow.is_rest]
         self.colors = [
             RESTS[rests.index(number) % len(RESTS)] if flow.is_rest else COLORS[number]

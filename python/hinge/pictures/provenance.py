@@ -14,7 +14,7 @@ from hinge.replays.replay import Packets
 from hinge.version import version
 
 MOST_LINES = 12  # the most lines of a configuration in the text
-BY_MODEL = re.compile(r"\bplr 0?\.50*(?!\S)")  # the loss rate with which a model's words decide about losses
+LOSS_BY_MODEL = re.compile(r"\bplr 0?\.50*(?!\S)")  # the loss rate with which a model's words decide about losses
 
 
 def provenance(lines: Sequence[str], files: Sequence[str], seed: Optional[str] = None) -> list[str]:
@@ -47,6 +47,8 @@ def model_of(packets: Packets, target: tuple[str, int]) -> str:
 def with_models(lines: Sequence[str], packets: Packets) -> list[str]:
     """Returns the configuration's lines, with loss models in place of the rates that their words use."""
     return [
-        BY_MODEL.sub(lambda rate: model_of(packets, setting_of(line)[:2]) or rate[0], line) if BY_MODEL.search(line) else line
+        LOSS_BY_MODEL.sub(lambda rate: model_of(packets, setting_of(line)[:2]) or rate[0], line)
+        if LOSS_BY_MODEL.search(line)
+        else line
         for line in lines
     ]

@@ -24,7 +24,7 @@ CAUSES = (LOST, FULL, NONE)
 
 
 @dataclass(frozen=True)
-class Steps:
+class TimeSteps:
     """Steps of `length` ns within a span of `span` ns."""
 
     length: int
@@ -85,7 +85,7 @@ class Series:
     """The data of a replay for pictures. Rates are in Mbit/s, delays in ms."""
 
     replay: Replay
-    steps: Steps
+    steps: TimeSteps
     flows: list[Flow]
     drops: dict[str, Integers]
     # for each link's queue: moments in s, and the number of waiting packets from each moment on
@@ -204,16 +204,16 @@ def waiting(replay: Replay, places: Integers) -> tuple[Reals, Reals]:
     return moments[order][ends] / NS_PER_S, np.cumsum(ups[order])[ends].astype(float)
 
 
-def offered(replay: Replay, places: Integers, steps: Steps) -> Reals:
+def offered(replay: Replay, places: Integers, steps: TimeSteps) -> Reals:
     return steps.rates(replay.at[places], replay.packets.length[places])
 
 
-def carried(replay: Replay, places: Integers, steps: Steps) -> Reals:
+def carried(replay: Replay, places: Integers, steps: TimeSteps) -> Reals:
     out = places[replay.is_out[places]]
     return steps.rates(replay.due[out], replay.packets.length[out])
 
 
-def flow_series(replay: Replay, name: str, places: Integers, is_rest: bool, steps: Steps) -> Flow:
+def flow_series(replay: Replay, name: str, places: Integers, is_rest: bool, steps: TimeSteps) -> Flow:
     out = places[replay.is_out[places]]
     drops = places[np.isin(replay.event[places], CAUSES)]
     ranks, delays = distribution(replay.took[out])
@@ -240,7 +240,7 @@ def series(
     bounds: Iterable[Bounded] = (),
 ) -> Series:
     """Returns the series of a replay in steps of `step_ns`. `changes` are the configuration's commands with their moments."""
-    steps = Steps(step_ns, span)
+    steps = TimeSteps(step_ns, span)
     changes = list(changes)
     pipes = pipes_of(replay, pipe_names(changes))
     queues = group(replay, "target")

@@ -14,7 +14,7 @@ from hinge.border.programs import PIPE, Process, begun, how_ended
 from hinge.border.scratch import memory, unnamed
 from hinge.command import FILES, ROWS, Fault, working
 from hinge.lazy import Integers, few as np
-from hinge.program import packets
+from hinge.program import packets_program
 from hinge.replays.record_lines import FieldCheck, is_address, number_to, without_quotes, wrong_row
 
 GREATEST = 2**63 - 1  # the greatest number of 63 bits
@@ -76,7 +76,7 @@ class Lazily(Sequence[Item]):
         return self.item(range(self.size)[place])
 
 
-class Answer:
+class ReaderReply:
     """Reads the answer of hinge-packets about a file. `refuse` raises the fault for an exit status and an error text."""
 
     def __init__(self, program: "Process[bytes]", refuse: Callable[[int, str], object]) -> None:
@@ -109,12 +109,12 @@ class Quoted(Exception):
 
 
 @contextmanager
-def asked(source: BinaryIO, words: Iterable[str], refuse: Callable[[int, str], object]) -> Iterator[Answer]:
+def asked(source: BinaryIO, words: Iterable[str], refuse: Callable[[int, str], object]) -> Iterator[ReaderReply]:
     """Yields the program's answer about a file. Calls `refuse` if the caller read the whole answer, and the program failed."""
     large = {**os.environ, "GLIBC_TUNABLES": "glibc.malloc.hugetlb=1"}  # pages, with which long tables are read faster
-    with begun([packets(), "columns", *words], stdin=source, stdout=PIPE, stderr=PIPE, env=large) as program:
+    with begun([packets_program(), "columns", *words], stdin=source, stdout=PIPE, stderr=PIPE, env=large) as program:
         try:
-            yield Answer(program, refuse)
+            yield ReaderReply(program, refuse)
             is_read = not cast(Any, program.stdout).read(1)
             status = program.wait() if is_read else 0
             if status:
@@ -124,7 +124,7 @@ def asked(source: BinaryIO, words: Iterable[str], refuse: Callable[[int, str], o
 
 
 def read_columns(
-    path: str, words: tuple[str, ...], fields: dict[str, FieldCheck], take: Callable[[Answer], Item], what: str = ""
+    path: str, words: tuple[str, ...], fields: dict[str, FieldCheck], take: Callable[[ReaderReply], Item], what: str = ""
 ) -> Item:
     """Returns the result of `take`, which reads the program's answer about a file. `words` are the program's arguments, and
     `fields` the columns in the file's header. Fault: the header or a row is wrong, or the program failed."""
@@ -195,7 +195,7 @@ class Rows:
 def read_rows(path: str) -> Rows:
     """Returns the rows of a packet file."""
 
-    def take(answer: Answer) -> Rows:
+    def take(answer: ReaderReply) -> Rows:
         count, targets, tuples = answer.numbers(3)
         kinds = answer.targets(targets)
         five = Tuples(answer.numbers(2 * tuples))
@@ -231,7 +231,7 @@ class Sums(NamedTuple):
 def read_sums(path: str) -> Sums:
     """Returns the sums of a correct packet file."""
 
-    def take(answer: Answer) -> Sums:
+    def take(answer: ReaderReply) -> Sums:
         rows, late, late_line, clock, first, longest, differ, word, count = answer.numbers(9)
         columns = zip(answer.targets(count), answer.numbers(count), answer.numbers(count))
         targets = [OfTarget(kind, number, rows_of_target, line) for (kind, number), rows_of_target, line in columns]
@@ -240,10 +240,10 @@ def read_sums(path: str) -> Sums:
     return read_columns(path, ("sums",), PACKET_FIELDS, take)
 
 
-def read_lines(path: str, rows: int) -> tuple[int, Optional[dict[str, Integers]]]:
+def read_events(path: str, rows: int) -> tuple[int, Optional[dict[str, Integers]]]:
     """Returns the number of a report's lines, and its columns, or None instead if the packet file's number of rows differs."""
 
-    def take(answer: Answer) -> tuple[int, Optional[dict[str, Integers]]]:
+    def take(answer: ReaderReply) -> tuple[int, Optional[dict[str, Integers]]]:
         count, is_whole = answer.numbers(2)
         return count, answer.columns(rows, REPORT_COLUMNS) if is_whole else None
 
@@ -256,7 +256,7 @@ def read_index(path: str) -> dict[str, Integers]:
     return read_columns(path, ("index",), INDEX_FIELDS, lambda answer: answer.columns(answer.numbers(1)[0], widths))
 
 
-Change = tuple[int, int, str]  # the record of a command that was obeyed, the clock's moment, and the line
+LineChange = tuple[int, int, str]  # the record of a command that was obeyed, the clock's moment, and the line
 
 
 @dataclass(frozen=True)
@@ -264,7 +264,7 @@ class Told:
     """Holds a history's content. The history is steady if all commands precede the first submit."""
 
     rows: Rows
-    changes: list[Change]
+    changes: list[LineChange]
     remarks: bytes
     records: int
     is_steady: bool
@@ -277,7 +277,7 @@ def read_told(path: str, kind: str, widths: Widths) -> Told:
     calls' records, are read only if commands come among packets, or packets pass a second pipe.
     """
 
-    def take(answer: Answer) -> Told:
+    def take(answer: ReaderReply) -> Told:
         count, targets, tuples, changes, remarks, records, first, last_line, is_whole = answer.numbers(9)
         kinds = answer.targets(targets)
         five = Tuples(answer.numbers(2 * tuples))

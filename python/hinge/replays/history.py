@@ -11,7 +11,7 @@ from hinge.checks.lines import judged_lines
 from hinge.command import ROWS, USAGE, Fault, say
 from hinge.outputs import refuse_inputs
 from hinge.lazy import few as np
-from hinge.replays.columns import HISTORY_COLUMNS, REPORT_COLUMNS, Change, read_told
+from hinge.replays.columns import HISTORY_COLUMNS, REPORT_COLUMNS, LineChange, read_told
 from hinge.replays.links import BEFORE_ALL, Configuration
 from hinge.replays.record_lines import is_history_file
 from hinge.replays.remarks import addresses_in, flips_in, lateness_in, seed_in, words_in
@@ -21,7 +21,7 @@ from hinge.replays.source import Source, of_reports
 FRONT = 1 << 16  # bytes at the beginning of a history that contain the words of a run
 
 
-def spelled_by_program(path: str, changes: list[Change]) -> list[Change]:
+def spelled_by_program(path: str, changes: list[LineChange]) -> list[LineChange]:
     """Returns the commands in the program's spelling. Fault: a text is no command."""
     if not changes:
         return []
@@ -33,7 +33,7 @@ def spelled_by_program(path: str, changes: list[Change]) -> list[Change]:
     return [(place, moment, verdict.text) for (place, moment, _), verdict in zip(changes, verdicts)]
 
 
-def read_history(path: str) -> Source:
+def read_history_source(path: str) -> Source:
     """Reads a history's submits; returns them as rows in call order, each with its effective moment. Fault: the file is no
     history."""
     with untrusted(path):
@@ -81,7 +81,7 @@ def read_sources(
             return of_reports(first, reports, config)
     if config:
         raise Fault(f"--config is of a packet file with its report, and {first} is alone: a history has its configuration", USAGE)
-    source = read_history(first)
+    source = read_history_source(first)
     if source.cut is not None:
         why = "the session was killed, or still goes on; it is looked at up to there"
         say(f"{first} has no end behind line {source.cut}: {why}")

@@ -13,7 +13,7 @@ from hinge.border.files import MOST_TEXT, read_bytes, untrusted
 from hinge.command import CONFIGURATION, ROWS, Fault
 from hinge.configurations.configured import InForce, LineFault, Pipe, Queue, Setting, setting_of, spelled_lines
 from hinge.lazy import Integers, Mask, few as np
-from hinge.replays.columns import Change
+from hinge.replays.columns import LineChange
 from hinge.replays.groups import places_of
 from hinge.replays.replay import NONE, Replay
 
@@ -39,7 +39,7 @@ class Configuration:
     """Holds the commands that configure pipes and queues, in the program's spelling, each with record and moment."""
 
     path: str
-    changes: list[Change]
+    changes: list[LineChange]
 
     @cached_property
     def lines(self) -> list[str]:

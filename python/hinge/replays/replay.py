@@ -12,11 +12,11 @@ from typing import Mapping, Optional, Sequence
 from hinge.captures.addresses import read_addresses
 from hinge.command import ROWS, Fault
 from hinge.lazy import Integers, Mask, few as np
-from hinge.replays.columns import EVENT_NAMES, EVENTS, FULL, HELD, LOST, NONE, OUT, Lazily, Rows, Tuples, read_lines, read_rows
+from hinge.replays.columns import EVENT_NAMES, EVENTS, FULL, HELD, LOST, NONE, OUT, Lazily, Rows, Tuples, read_events, read_rows
 from hinge.replays.units import socket_address
 
 __all__ = ["EVENTS", "EVENT_NAMES", "FULL", "HELD", "LOST", "NONE", "OUT", "Packets", "Replay", "read_packets", "read_report"]
-PROTOCOLS = {1: "icmp", 6: "tcp", 17: "udp", 58: "icmpv6", 132: "sctp"}
+PROTOCOL_NAMES = {1: "icmp", 6: "tcp", 17: "udp", 58: "icmpv6", 132: "sctp"}
 
 
 @dataclass(frozen=True)
@@ -39,7 +39,7 @@ class Packets:
     def tuple_name(self, number: int) -> str:
         """Returns a five-tuple in the usual notation."""
         src, dst, proto, sport, dport = self.tuples[number]
-        name = PROTOCOLS.get(proto, f"proto {proto}")
+        name = PROTOCOL_NAMES.get(proto, f"proto {proto}")
         if not (sport or dport):
             return f"{name} {src} > {dst}"
         return f"{name} {socket_address(src, sport)} > {socket_address(dst, dport)}"
@@ -107,7 +107,7 @@ def read_packets(path: str) -> Packets:
 
 def read_report(path: str, packets: Packets) -> Replay:
     """Reads the report from a replay of these packets, a line for each row. Fault: the report is of other packets."""
-    count, columns = read_lines(path, len(packets))
+    count, columns = read_events(path, len(packets))
     if columns is None:
         raise Fault(f"{path}: its {count} lines aren't those of the {len(packets)} rows of {packets.path}", ROWS)
     is_early = columns["at"] < packets.moment

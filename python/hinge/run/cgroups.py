@@ -20,8 +20,8 @@ from hinge.run.system import write
 MOUNT = re.compile(r"^\d+ \d+ \S+ (\S+) (\S+) .* - cgroup2 ", re.MULTILINE)  # the mounted part of the tree, and the mount's place
 PATIENCE = 2.0  # s for an event of a cgroup
 POLL = 0.001  # s between looks at the events
-OF_LINKS = ("cgroup.freeze", "cgroup.kill", "cgroup.events")  # the files that the process with the links uses for acts on hosts
-FILES = (*OF_LINKS, "cgroup.procs")  # `hinge exec` writes into the last file
+LINKS_FILES = ("cgroup.freeze", "cgroup.kill", "cgroup.events")  # the files that the process with the links uses for acts on hosts
+FILES = (*LINKS_FILES, "cgroup.procs")  # `hinge exec` writes into the last file
 NAME = re.compile("hinge-([0-9a-f]{12})[0-9a-f]{8}-(.*)")  # the name of a cgroup from the kit: a number, its checksum, and a host
 
 

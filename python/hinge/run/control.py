@@ -13,7 +13,7 @@ from hinge.border.messages import ObeyedLine, Order, Reply
 from hinge.border.serving import Server
 from hinge.events.forms import LINK_WORDS
 from hinge.run.changes import Change, Happening
-from hinge.run.host_lines import LONGEST_LINE, HostLines
+from hinge.run.host_lines import LONGEST_REQUEST, HostLines
 from hinge.run.page import Page
 from hinge.run.plan import Plan
 from hinge.run.system import Missing
@@ -98,8 +98,8 @@ class Control:
     def change_by(self, words: str, client: Client) -> list[ObeyedLine]:
         """Changes links for a client, after earlier requests; returns the applied and the refused lines. Wrong: the words are too
         long, earlier requests took too long, or the client has gone."""
-        if len(words) > LONGEST_LINE:
-            raise Wrong(f"words of more than {LONGEST_LINE:,} letters")
+        if len(words) > LONGEST_REQUEST:
+            raise Wrong(f"words of more than {LONGEST_REQUEST:,} letters")
         if time.monotonic() > client.until:
             raise Wrong(f"not obeyed: another order is under way since {PATIENCE:g} s")
         if not client.is_there():

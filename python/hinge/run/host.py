@@ -52,7 +52,7 @@ def plan_file(text: str) -> int:
     return descriptor
 
 
-class Link:
+class LinkProcess:
     """Holds a running hinge-link, its page of counts and the control socket. The constructor starts the process."""
 
     def __init__(

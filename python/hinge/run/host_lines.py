@@ -11,16 +11,16 @@ from typing import Callable, NamedTuple, Optional
 from hinge.border.programs import can_be_read
 from hinge.run.words import Wrong
 
-PATIENCE = 10.0  # s within which the host reads a line
+LINK_PATIENCE = 10.0  # s within which the host reads a line
 LOOK = 0.05  # s between looks whether a client is still there
 MOMENT = 1.0  # s for the reply to a line that the host read just before the end of its patience
-LONGEST_LINE = 4000  # bytes
+LONGEST_REQUEST = 4000  # bytes
 LONGEST_ANSWER = 8500  # bytes
-UNTAKEN = f"not obeyed: the links took no line within {PATIENCE:g} s"
+UNTAKEN = f"not obeyed: the links took no line within {LINK_PATIENCE:g} s"
 UNANSWERED = "the links took the line, and have not answered: it may be obeyed"
 
 
-class Answer(NamedTuple):
+class LinkReply(NamedTuple):
     """Describes the host's reply to a line."""
 
     moment: int  # ns, on the links' clock
@@ -47,17 +47,17 @@ class HostLines:
         """Returns the plan's line about the socket."""
         return f"control {self.descriptor()}\n"
 
-    def ask(self, text: str, until: Optional[float] = None, is_wanted: Callable[[], bool] = lambda: True) -> Answer:
+    def ask(self, text: str, until: Optional[float] = None, is_wanted: Callable[[], bool] = lambda: True) -> LinkReply:
         """Sends a line and returns the host's reply. If the host hasn't read the line at the moment `until` of the monotonic clock,
         or before `is_wanted` returns false, the reply says so. Wrong: the line is too long."""
-        if len(os.fsencode(text)) > LONGEST_LINE:
+        if len(os.fsencode(text)) > LONGEST_REQUEST:
             raise Wrong("a line of more than 4,000 bytes")
         with self.lock:
-            reply = self.answer(text, until or time.monotonic() + PATIENCE, is_wanted)
+            reply = self.answer(text, until or time.monotonic() + LINK_PATIENCE, is_wanted)
             head, _, line = reply.partition("\n")
             moment, _, wrong = head.partition(" ")
             self.latest = int(moment)
-            return Answer(self.latest, wrong, line)
+            return LinkReply(self.latest, wrong, line)
 
     def answer(self, text: str, until: float, is_wanted: Callable[[], bool]) -> str:
         """Sends a line and returns the text of the host's reply, or a text of the same form if there is no reply."""
@@ -86,6 +86,6 @@ class HostLines:
     def withdraw(self) -> bool:
         """Withdraws the latest line, if the host hasn't read the line yet; returns whether that was so."""
         try:
-            return bool(self.hosts.recv(2 * LONGEST_LINE, socket.MSG_DONTWAIT))
+            return bool(self.hosts.recv(2 * LONGEST_REQUEST, socket.MSG_DONTWAIT))
         except BlockingIOError:
             return False

@@ -10,10 +10,10 @@ from typing import TYPE_CHECKING, Optional, Sequence
 from hinge.command import say
 from hinge.run.cgroups import Cgroups
 from hinge.run.doors import Doors
-from hinge.run.host import Link
-from hinge.run.interfaces import NAME, something_listens
-from hinge.run.joined import Joined
-from hinge.run.order import Order, note_realtime, report
+from hinge.run.host import LinkProcess
+from hinge.run.interfaces import LINK_NAME, something_listens
+from hinge.run.joined import JoinedRooms
+from hinge.run.order import RunOrder, note_realtime, report
 from hinge.run.outside import Outside
 from hinge.run.page import Page
 from hinge.run.ports import Ports
@@ -22,7 +22,7 @@ from hinge.run.rooms import Rooms
 from hinge.run.settings import RunOptions
 from hinge.run.summary import Watch, record
 from hinge.run.system import enter, is_simulated
-from hinge.run.two_hosts import ends_of
+from hinge.run.two_hosts import two_ends
 from hinge.run.verdict import Waits
 from hinge.run.words import Wrong
 
@@ -44,7 +44,7 @@ class Inside:
     def __init__(
         self,
         options: RunOptions,
-        order: Order,
+        order: RunOrder,
         own_users: bool,
         outside: Optional[Outside],
         network: Optional[int],
@@ -57,8 +57,8 @@ class Inside:
         self.ports = ports
         self.page = Page()
         self.processes = Processes(WATCHED if options.command else WATCHED | {signal.SIGINT})
-        self.joined = None if network is None else Joined(network, options.mtu, own_users)
-        self.rooms = self.joined or Rooms(options.mtu, own_users, ends_of(options.net))
+        self.joined = None if network is None else JoinedRooms(network, options.mtu, own_users)
+        self.rooms = self.joined or Rooms(options.mtu, own_users, two_ends(options.net))
         self.begun = time.monotonic()
         self.cgroups = Cgroups()
         self.waits = Waits()
@@ -93,7 +93,7 @@ class Inside:
                 say(f"the server doesn't listen after {self.order.server_wait:g} s; the command begins")
         return server, number
 
-    def run_command(self, link: Link) -> tuple[int, bool]:
+    def run_command(self, link: LinkProcess) -> tuple[int, bool]:
         """Runs the command while the link is up; without a command, waits for a signal or the link's end. Returns the command's
         status, and whether the wait was interrupted before the command's own end."""
         watch = Watch(self.page) if self.options.watch else None
@@ -172,7 +172,7 @@ class Inside:
         """Starts the server, the link and the command, ends them, and reports the run; returns the run's status."""
         order = self.order
         if self.outside:  # before the server has mounts of its own
-            has_ipv6 = self.outside.join(self.rooms.server, [NAME], [self.rooms.ends.client6])
+            has_ipv6 = self.outside.join(self.rooms.server, [LINK_NAME], [self.rooms.ends.client6])
             self.rooms.lead_out(has_ipv6)
         server, number = self.begin_server()
         if number:
@@ -181,7 +181,7 @@ class Inside:
             self.ports.put_doors(self.rooms)
         control = order.control(self.page, self.status, self.doors())
         interfaces = self.rooms.interfaces
-        link = Link(self.processes, self.page, ["tun", *map(str, interfaces)], interfaces, order.plan, order.mask, control)
+        link = LinkProcess(self.processes, self.page, ["tun", *map(str, interfaces)], interfaces, order.plan, order.mask, control)
         fault = link.failed()
         if fault is not None:
             return fault

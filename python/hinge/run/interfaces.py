@@ -17,7 +17,7 @@ from hinge.run.rtnetlink import Request, ask_kernel, ask_many, index_of, packed
 from hinge.run.steps import kept_as_step
 from hinge.run.system import Missing, try_to_write
 
-NAME = "link"  # the name of the tun interface in each namespace
+LINK_NAME = "link"  # the name of the tun interface in each namespace
 QUEUE = 10000  # the most packets that wait for the host program; unread.h contains the same number
 SETLINK, NEWADDR, NEWROUTE = 16, 20, 24  # RTM_NEWLINK, RTM_NEWADDR, RTM_NEWROUTE
 HARDWARE_ADDRESS, MTU, QUEUE_LENGTH = 1, 4, 13  # IFLA_ADDRESS, IFLA_MTU, IFLA_TXQLEN
@@ -201,7 +201,7 @@ def open_tun(name: str, flags: int, offload: int, persists: bool) -> int:
 
 
 def add_tun(
-    address: str, address6: str, mtu: int, name: str = NAME, bits: int = 24, persists: bool = True, mac: bytes = b""
+    address: str, address6: str, mtu: int, name: str = LINK_NAME, bits: int = 24, persists: bool = True, mac: bytes = b""
 ) -> int:
     """Creates an interface with an IPv4 and an IPv6 address in this namespace, and returns its descriptor. The interface has no
     multicast, so the kernel sends no packets there by itself, and packet 1 is the command's. With a hardware address (`mac`) the
@@ -239,7 +239,7 @@ def unforwarded(place: str = OWN_NETWORK) -> dict[str, int]:
     return {name: int(counts[name]) for name in UNFORWARDED if int(counts.get(name, 0))}
 
 
-def dropped(name: str = NAME) -> int:
+def dropped(name: str = LINK_NAME) -> int:
     """Returns how many packets the system dropped before an interface of this namespace."""
     return all_dropped().get(name, 0)
 

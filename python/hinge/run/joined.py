@@ -23,7 +23,7 @@ from hinge.run.interfaces import add_interface_route, add_tun, dropped, hand_on
 from hinge.run.rooms import Rooms, see_own_processes
 from hinge.run.rtnetlink import ask_kernel
 from hinge.run.system import Missing, enter, try_to_write
-from hinge.run.two_hosts import OWN
+from hinge.run.two_hosts import OWN_ENDS
 from hinge.run.words import Wrong
 
 UP, DOWN = "hinge-up", "hinge-down"  # the tun interfaces
@@ -116,7 +116,7 @@ def remove_rule(priority: int, table: int, comes_by: str) -> None:
             return
 
 
-class Joined(Rooms):
+class JoinedRooms(Rooms):
     """Holds the single room of a run in an existing network, which contains the client and the server. Create this object in the
     first process, which then enters the network."""
 
@@ -124,7 +124,7 @@ class Joined(Rooms):
         see_own_processes()
         self.client = self.server = network
         self.own_users = own_users
-        self.ends = OWN
+        self.ends = OWN_ENDS
         try:
             enter(network)
         except OSError as error:
@@ -170,7 +170,7 @@ class Joined(Rooms):
         hand_on(self.out.interface, self.did_forward, self.did_proxy_arp)
 
 
-def said(engine: str, *words: str) -> Answer:
+def engine_answer(engine: str, *words: str) -> Answer:
     """Runs a container engine's command; returns its answer, whatever the status."""
     return asked([engine, *words], statuses=range(256))
 
@@ -189,13 +189,13 @@ class Container(NamedTuple):
 def process_in(engine: str, name: str, running: list[Container]) -> str:
     """Returns the number of the first process of an engine's container with a name or image; empty if no container runs. Wrong: the
     container has ended, or several containers have this image."""
-    same = said(engine, "ps", "--format", "{{.Names}}", "--filter", f"ancestor={name}").text.split()
+    same = engine_answer(engine, "ps", "--format", "{{.Names}}", "--filter", f"ancestor={name}").text.split()
     if not same:  # podman's filter requires an image's registry
         same = [container.name for container in running if container.is_of_image(name)]
     if len(same) > 1:
         raise Wrong(f"--container {name}: several containers of this image run; write one of {', '.join(same)}")
     for container in (name, *same):
-        process = said(engine, "container", "inspect", "--format", "{{.State.Pid}}", container).text.strip()
+        process = engine_answer(engine, "container", "inspect", "--format", "{{.State.Pid}}", container).text.strip()
         if process == "0":
             raise Wrong(f"--container {name}: it doesn't run; write {engine} start {container} before it")
         if process.isdecimal():
@@ -210,7 +210,7 @@ def process_of(name: str) -> str:
     others = list[str]()
     faults = list[str]()
     for engine in engines:
-        answer = said(engine, "ps", "--format", "{{.Names}} {{.Image}}")
+        answer = engine_answer(engine, "ps", "--format", "{{.Names}} {{.Image}}")
         if answer.status:
             faults += [line for line in answer.told.splitlines() if line][-1:]
             continue

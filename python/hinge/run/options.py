@@ -9,7 +9,7 @@ from typing import Any, Mapping, NoReturn, Optional
 from hinge.arguments import RULE, is_number
 from hinge.border.terminal import show
 from hinge.command_line import add, Joined, Parser
-from hinge.foreign_options import OF_LINK, OPTIONS
+from hinge.foreign_options import LINK_OPTIONS, FOREIGN_OPTIONS
 from hingetulip_words.values import EXAMPLES
 
 MOST = 250_000_000  # bytes of a part of a transcript, since an audit reads at most 268,435,456
@@ -90,9 +90,9 @@ class Model(argparse._AppendAction):
     option."""
 
     def __call__(self, parser: argparse.ArgumentParser, namespace: argparse.Namespace, values: Any, option: Any = None) -> None:
-        from hinge.loss import rate_of
+        from hinge.loss import percentage_of
 
-        rate = rate_of(values)
+        rate = percentage_of(values)
         if isinstance(parser, Parser) and rate:
             parser.foreign.append(("--loss", rate))
         else:
@@ -102,10 +102,10 @@ class Model(argparse._AppendAction):
 def add_foreign(parser: Parser, table: Mapping[str, str]) -> None:
     """Adds hidden options that the command refuses: other tools' options, and the options in `table`, each with the command's own
     advice."""
-    for option in dict.fromkeys((*table, *OF_LINK, *OPTIONS)):
+    for option in dict.fromkeys((*table, *LINK_OPTIONS, *FOREIGN_OPTIONS)):
         hidden = argparse.SUPPRESS
         action = parser.add_argument(option, action=Foreign, const=table.get(option), default=hidden, help=hidden)
-        _, has_value = OPTIONS.get(option, ("", True))
+        _, has_value = FOREIGN_OPTIONS.get(option, ("", True))
         action.nargs = None if has_value else 0
 
 

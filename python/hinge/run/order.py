@@ -30,7 +30,7 @@ class CountedPage(Protocol):
         ...
 
 
-class Order(NamedTuple):
+class RunOrder(NamedTuple):
     """Describes a run according to the command line."""
 
     options: LiveOptions
@@ -54,7 +54,7 @@ class Order(NamedTuple):
         return Control(self.options.control, self.link_plan, page, self.link_plan.read, status, enter)
 
 
-def order_of(options: LiveOptions, longest: int, mask: Mask, server_wait: str = "0", server_end: str = "0") -> Order:
+def run_order(options: LiveOptions, longest: int, mask: Mask, server_wait: str = "0", server_end: str = "0") -> RunOrder:
     """Returns the order for a run, with packets of at most `longest` bytes."""
     plan = plan_of(options, longest)
     seed = drawn_seed(options.seed)
@@ -63,7 +63,7 @@ def order_of(options: LiveOptions, longest: int, mask: Mask, server_wait: str = 
     limit = limit_of(options.late)
     wait = duration(server_wait, "--server-wait") / 1e9
     end = duration(server_end, "--server-end") / 1e9
-    return Order(options, text, limit, seed, draws(plan), mask, wait, end, plan)
+    return RunOrder(options, text, limit, seed, draws(plan), mask, wait, end, plan)
 
 
 def note_realtime(page: Page) -> None:
@@ -73,7 +73,7 @@ def note_realtime(page: Page) -> None:
 
 
 def report(
-    order: Order,
+    order: RunOrder,
     page: CountedPage,
     drops: Sequence[int],
     status: int,

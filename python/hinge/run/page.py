@@ -64,7 +64,7 @@ def end_of_bin(index: int) -> int:
     return (16 + index % 16 + 1) << (index - 16) // 16
 
 
-class Way:
+class WayCounts:
     """Holds the counts of a way (one direction of a link)."""
 
     def __init__(self, numbers: tuple[int, ...], moment: int) -> None:
@@ -100,7 +100,7 @@ class Counts:
         self.slept = slept
         self.head = dict(zip(HEAD, numbers))
         end = len(numbers) - (len(numbers) - len(HEAD)) % WAY
-        self.ways = [Way(numbers[at : at + WAY], self["moment"]) for at in range(len(HEAD), end, WAY)]
+        self.ways = [WayCounts(numbers[at : at + WAY], self["moment"]) for at in range(len(HEAD), end, WAY)]
         self.met = numbers[end:]  # 64 bits each
 
     def __getitem__(self, name: str) -> int:

@@ -16,9 +16,9 @@ from typing import TYPE_CHECKING, Iterable, Iterator, Optional, Sequence
 from hinge.arguments import is_number
 from hinge.run.changes import Bandwidths, Change, Changes, Happening, Outage
 from hinge.run.options import MOST
-from hinge.run.traces import MAHIMAHI_BYTES, MOST_BINS, MS, Moments, counted, read_trace, spelled
+from hinge.run.traces import MAHIMAHI_BYTES, MOST_BINS, MS, Moments, counted, read_trace, spelled_moments
 from hinge.run.verdict import Awaited
-from hinge.run.words import Target, Wrong, bare, configures, of_link, placed, read_once, target_of, with_bandwidth
+from hinge.run.words import Target, Wrong, bare, configures, with_plan_pipes, placed, read_once, target_of, with_bandwidth
 from hingetulip_words.link import Extra, LinkWords, Place, WordError, refusal_of_change
 from hingetulip_words.values import SHARES
 
@@ -214,7 +214,7 @@ class Plan:
 
     def link(self, line: str, link: int = 0) -> None:
         """Adds a configuration line of a link, which is counted from 0; skips an empty line or a comment."""
-        line = of_link(bare(line), link)
+        line = with_plan_pipes(bare(line), link)
         if line:
             self.configured.append(line)
             target = target_of(line)
@@ -235,9 +235,9 @@ class Plan:
         """Adds a rule that sends packets to a pipe or queue; `said` names the rule in the verdict. Wrong: the text isn't a rule,
         repeats a rule, or doesn't say the way if the target leaves that open; or the target isn't configured, or the queue loses
         nothing."""
-        from hinge.run.rules import Rule
+        from hinge.run.rules import WayRule
 
-        rule = Rule(text)
+        rule = WayRule(text)
         if rule.target not in self.current:
             raise Wrong(f"--map {text}: {rule.target.kind} {rule.target.number} isn't configured")
         way = self.way_of(rule.target) if rule.way is None else 2 * link + rule.way
@@ -287,7 +287,7 @@ class Plan:
         from hinge.events.kinds import Heal, NewLine, NewWords
 
         if isinstance(event, NewLine):
-            line = of_link(event.line, event.ways[0] // 2)
+            line = with_plan_pipes(event.line, event.ways[0] // 2)
             self.note_line(line)
             return [Change(moment, line)]
         if isinstance(event, NewWords):
@@ -354,7 +354,7 @@ class Plan:
             return
         self.has_moments = True
         if bin_ns is None and not self.is_shared(way + 1):
-            self.rest.append(f"slots {way + 1} {spelled(moments)}")
+            self.rest.append(f"slots {way + 1} {spelled_moments(moments)}")
             return
         if bin_ns is None:
             bin_ns = min(TRACE_BIN, moments[-1] * MS)

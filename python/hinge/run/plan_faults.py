@@ -5,7 +5,7 @@ from __future__ import annotations
 from typing import TYPE_CHECKING, Iterable, Sequence
 
 from hinge.events.link_words import link_event
-from hinge.fault_lines import CUT, HOLD, IS_LATE, IS_LOST, IS_TWICE, Act, Fault, faults_in, spelled
+from hinge.fault_lines import CUT, HOLD, IS_LATE, IS_LOST, IS_TWICE, Act, Fault, faults_in, spelled_seconds
 from hinge.run.words import SECOND, Wrong, read_lines
 from hingetulip_words.link import Extra
 
@@ -36,11 +36,11 @@ def add_act(plan: Plan, path: str, act: Act, names: Sequence[str]) -> None:
     """Adds a cut or a hold of a way; the first of `names` is the way up. ValueError: the act isn't a cut or a hold of a way in
     `names`, which is empty for a net, whose file has lines `at` for acts."""
     if act.kind not in (CUT, HOLD) or act.of not in names:
-        advice = f"`at {spelled(act.moment)} cut {names[0]} 2s` or `hold`" if names else "it as a line `at` of the net"
+        advice = f"`at {spelled_seconds(act.moment)} cut {names[0]} 2s` or `hold`" if names else "it as a line `at` of the net"
         raise ValueError(f"{path}: '{act}': no cut or hold of a link; write {advice}")
     way = "up" if act.of == names[0] else "down"
     lossy = " lossy" if act.kind == CUT else ""
-    event = link_event(f"{way} outage {spelled(act.seconds)}{lossy}", path)
+    event = link_event(f"{way} outage {spelled_seconds(act.seconds)}{lossy}", path)
     plan.add_event(event, round(act.moment * SECOND), str(act))
 
 

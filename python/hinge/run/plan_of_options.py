@@ -10,13 +10,13 @@ from typing import Iterable, Iterator, Optional, Sequence
 from hinge.run.plan import Plan
 from hinge.run.settings import LinkOptions, LiveOptions
 from hinge.run.transcripts import refuse_lost
-from hinge.run.words import Target, Wrong, bare, duration, link_of, read_lines, target_of
+from hinge.run.words import Target, Wrong, bare, duration, read_link_words, read_lines, target_of
 from hingetulip_words.link import NO_WORDS, LinkWords, Place
 from hingetulip_words.presets import Preset, preset
 
 BIN_LEAST = 10**6  # ns
 TRACE_LASTING = "1h"  # how long traces are repeated by default
-LINKS = "client > server", "server > client"  # the names of ways 0 and 1 in a file of faults
+WAY_NAMES = "client > server", "server > client"  # the names of ways 0 and 1 in a file of faults
 Numbered = tuple[int, str]  # a line's number, and its text
 
 
@@ -98,7 +98,7 @@ def own_link(text: str, option: str) -> LinkWords:
     """Returns the link in an option of the command line. Wrong: the text is empty, or isn't a link."""
     if not bare(text):
         raise Wrong(f"{option} {text!r}: {NO_WORDS}; an open one is 'bw 0'")
-    return link_of(text, option, Place.KERNELS)
+    return read_link_words(text, option, Place.KERNELS)
 
 
 def asking(option: str, lines: Iterable[Numbered]) -> Iterator[Numbered]:
@@ -191,13 +191,13 @@ def plan_of(options: LiveOptions, longest: int) -> Plan:
     for way, (option, text, preset_text) in enumerate(link_texts(options)):
         if text is None:
             text = preset_text or ""
-        plan.words(way, link_of(text, option, Place.KERNELS))
+        plan.words(way, read_link_words(text, option, Place.KERNELS))
     for rule in options.map:
         plan.rule(rule)
     for model in options.loss:
         plan.loss(model)
     if options.faults:
-        plan.faults(options.faults, LINKS)
+        plan.faults(options.faults, WAY_NAMES)
     if options.timeline:
         plan.timeline(options.timeline)
     for way, path in enumerate((options.up_trace, options.down_trace)):

@@ -5,15 +5,15 @@ from __future__ import annotations
 from itertools import product
 from typing import Iterator, Optional
 
-from hinge.captures.rule_words import EVERY_PORT, BadRule, Net, PortSpan, parted, short_of
+from hinge.captures.rule_words import EVERY_PORT, BadRule, IpNetwork, PortSpan, parted, short_of
 from hinge.run.words import Target, Wrong
 
 MAPPED = 0xFFFF << 32  # the bits before an IPv4 address within an IPv6 address
 EVERYWHERE = "0" * 32 + " " + "0" * 32  # an address and a mask that match all addresses
-ENDS = (("src", "dst"), ("sport", "dport"))
+RULE_ENDS = (("src", "dst"), ("sport", "dport"))
 
 
-def net_words(net: Optional[Net]) -> str:
+def net_words(net: Optional[IpNetwork]) -> str:
     """Returns a network's address and mask as hex digits of IPv6; all networks without a network."""
     if net is None:
         return EVERYWHERE
@@ -23,7 +23,7 @@ def net_words(net: Optional[Net]) -> str:
     return f"{address:032x} {mask:032x}"
 
 
-def narrower(first: Optional[Net], second: Net) -> Optional[Net]:
+def narrower(first: Optional[IpNetwork], second: IpNetwork) -> Optional[IpNetwork]:
     """Returns the network that two networks share, or None if they are disjoint; a first network None contains all addresses."""
     if first is None:
         return second
@@ -32,7 +32,7 @@ def narrower(first: Optional[Net], second: Net) -> Optional[Net]:
     return first if first.prefixlen >= second.prefixlen else second
 
 
-class Rule:
+class WayRule:
     """Describes a rule in short form. Wrong: the text isn't a rule."""
 
     def __init__(self, text: str) -> None:
@@ -44,7 +44,7 @@ class Rule:
         self.target = Target(*target)
         self.way = self.short.way
 
-    def nets(self) -> Iterator[tuple[Optional[Net], Optional[Net]]]:
+    def nets(self) -> Iterator[tuple[Optional[IpNetwork], Optional[IpNetwork]]]:
         """Yields the networks of the source and the destination. If the rule contains `host`, which matches either end, yields a
         pair for each end."""
         nets = self.short.nets
@@ -52,7 +52,7 @@ class Rule:
         if host is None:
             yield nets.get("src"), nets.get("dst")
             return
-        for end in ENDS[0]:
+        for end in RULE_ENDS[0]:
             overlap = narrower(nets.get(end), host)
             if overlap is not None:
                 pair = {**nets, end: overlap}
@@ -61,12 +61,12 @@ class Rule:
     def spans(self) -> Iterator[tuple[PortSpan, PortSpan]]:
         """Yields the ports of the source and the destination. If the rule contains `port`, which matches either end, yields a pair
         for each end."""
-        spans = {end: self.short.ports.get(end, EVERY_PORT) for end in ENDS[1]}
+        spans = {end: self.short.ports.get(end, EVERY_PORT) for end in RULE_ENDS[1]}
         port = self.short.ports.get("port")
         if port is None:
             yield spans["sport"], spans["dport"]
             return
-        for end in ENDS[1]:
+        for end in RULE_ENDS[1]:
             overlap = spans[end].both(port)
             if overlap is not None:
                 pair = {**spans, end: overlap}

@@ -6,7 +6,7 @@ import re
 from typing import Iterator, Optional, Sequence, Union
 
 from hinge.border.terminal import tell
-from hinge.run.page import COUNTS, ENDED_WELL, Counts, Page, Way
+from hinge.run.page import COUNTS, ENDED_WELL, Counts, Page, WayCounts
 
 NAMES = ("up", "down")
 FORMAT = 1  # the version of the JSON summary, whose keys docs/LIVE.md lists
@@ -16,7 +16,7 @@ SHARES = (("p50", 0.5), ("p99", 0.99), ("p99.9", 0.999), ("max", 1.0))
 Record = dict[str, Union[int, float]]
 
 
-def times(way: Way) -> dict[str, float]:
+def times(way: WayCounts) -> dict[str, float]:
     """Returns how late packets left and how long packets waited unread, in ms: for each share of the packets, and for 99 % of the
     time, the least limit that the share keeps."""
     late = {f"late_{label}_ms": way.late.within(share) for label, share in SHARES}
@@ -25,7 +25,7 @@ def times(way: Way) -> dict[str, float]:
     return late | unread | of_time
 
 
-def judged(name: str, way: Way, drops: int, limit: float) -> Iterator[str]:
+def judged(name: str, way: WayCounts, drops: int, limit: float) -> Iterator[str]:
     """Yields the reasons not to trust a way (one direction of a link), by a limit in ms for 99 % of the packets and 99 % of the
     time.
 
@@ -91,7 +91,7 @@ SELDOM = (
 )
 
 
-def direction(name: str, way: Way, drops: int) -> str:
+def direction(name: str, way: WayCounts, drops: int) -> str:
     """Returns the counts of a way in words, without counts of 0 that are rare."""
     text = "nothing came"
     if way["came"]:
@@ -108,7 +108,7 @@ def line(counts: Counts, drops: Sequence[int]) -> str:
     return "; ".join(direction(name, way, losses) for name, way, losses in zip(NAMES, counts.ways, drops))
 
 
-def way_record(way: Way, drops: int) -> Record:
+def way_record(way: WayCounts, drops: int) -> Record:
     """Returns a way's part of the JSON summary."""
     counts: Record = {key: way[key] for key in COUNTS if not key.endswith("_most")}
     return counts | times(way) | {"underway": way.underway, "system_drops": drops}
@@ -127,7 +127,7 @@ def record(counts: Counts, drops: Sequence[int], status: Optional[int], seed: in
     return front | host_record(counts) | dict(zip(NAMES, ways))
 
 
-def shown(name: str, before: Way, now: Way) -> str:
+def shown(name: str, before: WayCounts, now: WayCounts) -> str:
     """Returns the growth of a way's counts between two readings a second apart, in words; the delay is the mean over packets that
     left."""
     growth = {key: now[key] - before[key] for key in ("sent", "sent_bytes", "stayed", "lost", "full")}

@@ -113,7 +113,7 @@ def read_moments(path: str, rows: Iterable[Row]) -> Moments:
     return numbers
 
 
-def spelled(moments: Moments) -> str:
+def spelled_moments(moments: Moments) -> str:
     """Returns the words for moments. Joins pieces of them, since all words as objects would need far more memory than their
     letters."""
     pieces = (moments[start : start + PIECE] for start in range(0, len(moments), PIECE))

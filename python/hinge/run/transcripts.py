@@ -9,7 +9,7 @@ from hinge.border.files import is_beside
 from hinge.outputs import is_file, is_planted, place
 from hinge.run.words import Wrong
 
-KEPT = "/run/kept"  # a folder in a simulated machine; the launcher copies its files at the end, and reports them
+KEPT_PATH = "/run/kept"  # a folder in a simulated machine; the launcher copies its files at the end, and reports them
 AUDITED = 268_435_456  # the most bytes that an audit reads without an option
 
 
@@ -53,7 +53,7 @@ def files_of(transcript: str) -> list[str]:
 def lines_about_files(transcript: str, count: int) -> Iterator[str]:
     """Yields lines for the user about a transcript in several files, and about files that are too large for an audit without
     options."""
-    parts = [] if transcript.startswith(f"{KEPT}/") else parts_of(transcript, count)
+    parts = [] if transcript.startswith(f"{KEPT_PATH}/") else parts_of(transcript, count)
     if len(parts) > 1:
         first_files = f"{parts[0]}, {parts[1]}" + (" .." if count > 2 else "")
         yield f"the transcript is in {count} files, of which each is audited by itself: {first_files}"

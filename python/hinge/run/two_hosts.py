@@ -30,15 +30,15 @@ class Ends(NamedTuple):
         return f"{self.server6} server\n{self.client6} client\n"
 
 
-OWN = Ends("10.8.0.1", "10.8.0.2", "fd08::1", "fd08::2", "10.8.0.0/24", 24)
+OWN_ENDS = Ends("10.8.0.1", "10.8.0.2", "fd08::1", "fd08::2", "10.8.0.0/24", 24)
 
 
-def ends_of(text: str | None) -> Ends:
+def two_ends(text: str | None) -> Ends:
     """Returns the first two addresses of an IPv4 network, with IPv6 addresses in fd08:: that contain the network's number. Without
     a network, returns the usual addresses. Wrong: the text isn't a network, or the network is too small, too large or for other
     purposes."""
     if text is None:
-        return OWN
+        return OWN_ENDS
     try:
         network = ipaddress.IPv4Network(text)
     except ValueError:

@@ -16,7 +16,7 @@ from hingetulip_words.link import Extra, LinkWords, Place, WordError, corrected,
 WAYS = {"up": 0, "down": 1}
 LINES = ("pipe", "queue", "ipfw")  # the first words of configuration lines
 SECOND = 1_000_000_000  # ns
-LONGEST = 1 << 16  # the most letters in a line of a file
+LONGEST_FILE_LINE = 1 << 16  # the most letters in a line of a file
 LAST_MOMENT = 2**62  # ns, on the links' clock
 MTU_LEAST, MTU_MOST = 576, 65535  # bytes
 KEPT = 1 << 12  # how many texts' meanings a cache keeps, since long files repeat the same texts
@@ -108,7 +108,7 @@ def first_word(text: str) -> tuple[str, str]:
 def read_lines(path: str, lines: Optional[int] = MOST_LINES) -> Iterator[str]:
     """Yields the lines of a text file. Wrong: the file can't be read, or has more than `lines` lines."""
     try:
-        yield from lines_in(path, LONGEST, lines, said=lines and MOST_SAID)
+        yield from lines_in(path, LONGEST_FILE_LINE, lines, said=lines and MOST_SAID)
     except Fault as fault:
         raise Wrong(str(fault)) from None
     except OSError as error:
@@ -140,7 +140,7 @@ def of_such_words(text: str) -> Optional[LinkWords]:
     return LinkWords(options, NO_EXTRA)
 
 
-def link_of(text: str, option: str, place: Place = Place.CHANGE) -> LinkWords:
+def read_link_words(text: str, option: str, place: Place = Place.CHANGE) -> LinkWords:
     """Returns the link for words such as `10Mbit/s 20ms queue 100 loss 1%`. Wrong: the text isn't a link; the message begins with
     `option`, and contains the corrected text, if possible."""
     try:
@@ -184,7 +184,7 @@ def renumbered(line: str, pipe: Callable[[int], int], queue: Callable[[int], int
     return " ".join(words)
 
 
-def of_link(line: str, link: int) -> str:
+def with_plan_pipes(line: str, link: int) -> str:
     """Returns a configuration line of a link, which is counted from 0, with the plan's pipes in place of the link's pipes 1 and
     2."""
     if not link:

@@ -9,8 +9,8 @@ from pathlib import Path
 from typing import Iterator, NamedTuple, Optional
 
 from hinge.net.description import read_description
-from hinge.replays.replay import PROTOCOLS
-from hinge.run.plan_of_options import LINKS
+from hinge.replays.replay import PROTOCOL_NAMES
+from hinge.run.plan_of_options import WAY_NAMES
 from hinge.searches.case import Case
 from hinge.searches.runs import RunFiles, Runner, SummarizedRun
 from hinge.simulated.calls_kept import CALLS, CallRow, around, call_rows, pauses_in
@@ -36,7 +36,7 @@ class Lost(NamedTuple):
 
     def text(self, name: str) -> str:
         source, target, protocol, port, to, length, _, moment = self.row.split(",")
-        protocol_name = PROTOCOLS.get(int(protocol), f"protocol {protocol}")
+        protocol_name = PROTOCOL_NAMES.get(int(protocol), f"protocol {protocol}")
         if (port, to) == ("0", "0"):
             ends = f"{source} > {target}"
         elif ":" in source:
@@ -48,7 +48,7 @@ class Lost(NamedTuple):
 
 def way_names(what: "list[str]") -> "list[str]":
     """Returns the names of all ways in a net or in `hinge run` (a way is one direction of a link)."""
-    return read_description(what[1]).ways() if what[0] == "net" else [*LINKS]
+    return read_description(what[1]).ways() if what[0] == "net" else [*WAY_NAMES]
 
 
 def packets_lost(paths: "list[Path]", ways: int) -> "Optional[list[Lost]]":

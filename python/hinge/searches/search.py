@@ -7,7 +7,7 @@ import shlex
 from pathlib import Path
 from typing import Any, Iterator, Optional
 
-from hinge.border.scratch import Ended
+from hinge.border.scratch import SignalEnd
 from hinge.border.terminal import several, show
 from hinge.command import Fault, say
 from hinge.outputs import writing
@@ -111,7 +111,7 @@ def search(options: SearchSettings, seeds: list[int], at_a_time: int, failure: P
     runs = Runs(folder, Runner(options))
     try:
         runs.make_all(seeds, at_a_time)
-    except (KeyboardInterrupt, Ended):
+    except (KeyboardInterrupt, SignalEnd):
         show_runs(runs, seeds)
         raise
     failures = show_runs(runs, seeds)

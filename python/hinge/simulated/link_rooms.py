@@ -7,15 +7,15 @@ import struct
 from pathlib import Path
 from typing import Callable, Iterable, NamedTuple, Optional
 
-from hinge.run.interfaces import NAME, all_dropped
-from hinge.run.order import Order, report
+from hinge.run.interfaces import LINK_NAME, all_dropped
+from hinge.run.order import RunOrder, report
 from hinge.run.page import Counts, size_of_page
 from hinge.run.plan_of_options import draws, limit_of, plan_of
 from hinge.run.processes import SIGNALLED, Ended
 from hinge.run.rooms import Rooms
 from hinge.run.settings import RunOptions
 from hinge.run.steps import Steps
-from hinge.run.two_hosts import ends_of
+from hinge.run.two_hosts import two_ends
 from hinge.run.words import duration
 from hinge.simulated.job import root_of
 from hinge.simulated.verdict import MachineVerdict, of_wait
@@ -65,12 +65,12 @@ class LinkRun(NamedTuple):
     """Describes a run of `hinge run` in a machine without Python."""
 
     options: RunOptions
-    order: Order
+    order: RunOrder
 
     def texts(self) -> "list[str]":
         """Returns the texts that the machine's first process reads: the rooms, the link and the server."""
         with Steps(root_of(self.options) or "") as steps:
-            rooms = Rooms(self.options.mtu, False, ends_of(self.options.net))
+            rooms = Rooms(self.options.mtu, False, two_ends(self.options.net))
         texts = rooms_texts("run", steps, rooms.interfaces, self.order.plan, 1)
         return [*texts, self.options.server or "", *map(nanoseconds, (self.order.server_wait, self.order.server_end))]
 
@@ -84,7 +84,7 @@ class LinkRun(NamedTuple):
         """Reports on the links, writes the summary to a file, and returns the run's status."""
         _, _, by, server, after = "".join(first_process_lines(folder)).split()
         endings = None if by == "none" else Ended(of_wait(int(server)).status, round(int(after) / 1e9, 3), by)
-        drops = [all_dropped(counts_of(folder, network)).get(NAME, 0) for network in (0, 1)]
+        drops = [all_dropped(counts_of(folder, network)).get(LINK_NAME, 0) for network in (0, 1)]
         order = self.order._replace(options=self.order.options.but(json=str(summary)))
         return report(order, page_of(folder), drops, verdict.status if verdict else TERMINATED, endings)
 
@@ -95,5 +95,5 @@ def link_run(options: RunOptions, seed: int, transcript: Optional[str]) -> LinkR
     text = plan.text(seed, transcript, True, options.most, True)
     wait = duration(options.server_wait, "--server-wait") / 1e9
     end = duration(options.server_end, "--server-end") / 1e9
-    order = Order(options.but(transcript=None), text, limit_of(options.late), seed, draws(plan), set(), wait, end, plan)
+    order = RunOrder(options.but(transcript=None), text, limit_of(options.late), seed, draws(plan), set(), wait, end, plan)
     return LinkRun(options, order)

@@ -20,7 +20,7 @@ from hinge.border.scratch import temporary_place
 from hinge.border.terminal import lines
 from hinge.program import HINGE
 from hinge.pytest_plugin import INSIDE
-from hinge.run.transcripts import KEPT
+from hinge.run.transcripts import KEPT_PATH
 from hinge.testing.emulated import audited, closing, dropped_in_history
 
 HISTORY, REPORTS = "link.history", "reports"
@@ -60,13 +60,13 @@ def run_in_machine(item: pytest.Item, words: list[str], seed: int, folder: Path)
     """Runs a test in a machine with these options; returns the result. The test's files remain in the folder."""
     kept_folder = folder / "kept"
     kept_folder.mkdir()
-    names = {**os.environ, INSIDE: f"{KEPT}/{REPORTS}", "PYTHONDONTWRITEBYTECODE": "1"}
+    names = {**os.environ, INSIDE: f"{KEPT_PATH}/{REPORTS}", "PYTHONDONTWRITEBYTECODE": "1"}
     names.pop("PYTEST_CURRENT_TEST", None)
     config = ["-c", str(item.config.inipath)] if item.config.inipath else []
     plugins = [word for name in item.config.option.plugins for word in ("-p", name)]
     inner = [
         *(sys.executable, "-m", "pytest", "-q", "-p", "no:cacheprovider", *plugins, *config),
-        f"--basetemp={KEPT}/tmp",
+        f"--basetemp={KEPT_PATH}/tmp",
         f"--rootdir={item.config.rootpath}",
         f"--link-seed={seed}",
         item.nodeid,
@@ -79,7 +79,7 @@ def run_in_machine(item: pytest.Item, words: list[str], seed: int, folder: Path)
     with begun(whole, text=True, errors="replace", **settings) as process:
         messages = process.communicate()[1].strip()
     path = kept_folder / REPORTS
-    text = path.read_text().replace(f"{KEPT}/", f"{kept_folder}/") if path.exists() else ""
+    text = path.read_text().replace(f"{KEPT_PATH}/", f"{kept_folder}/") if path.exists() else ""
     return MachineResult(process.returncode, messages, [json.loads(line) for line in text.splitlines()])
 
 

@@ -21,7 +21,7 @@ from hinge.run.system import Missing
 from hinge.run.words import Wrong
 from hinge.run.processes import SIGNALLED
 from hinge.run.summary import FORMAT
-from hinge.run.transcripts import KEPT, lines_about_files, parts_of
+from hinge.run.transcripts import KEPT_PATH, lines_about_files, parts_of
 from hinge.simulated.job import Job, environment, limit_in_ns, real_limit_of, refuse_outside, root_of, words_of_net
 from hinge.simulated.kernel import Kernel, usable_kernel
 from hinge.simulated.likeness import earlier, remarks
@@ -71,13 +71,13 @@ def inside(options: NetOptions, seed: int) -> NetOptions:
     transcript is always a new file, copied at the end, since an existing file could influence the run. The launcher's options are
     left out: the words are in the programs' memory, and mustn't change the run."""
     ours = dict.fromkeys(("kept", "pauses", "real_limit", "limit", "like", "root"))
-    files = {"transcript": transcript_of(options), "json": f"{KEPT}/{MACHINE_SUMMARY}"}
+    files = {"transcript": transcript_of(options), "json": f"{KEPT_PATH}/{MACHINE_SUMMARY}"}
     return options.but(seed=seed, realtime=True, twice=False, clean_env=False, **files, **ours)
 
 
 def transcript_of(options: SimulatedOptions) -> Optional[str]:
     """Returns the path of the run's transcript in the machine, if any."""
-    return f"{KEPT}/{MACHINE_HISTORY}" if options.transcript or options.twice else None
+    return f"{KEPT_PATH}/{MACHINE_HISTORY}" if options.transcript or options.twice else None
 
 
 class Planned(NamedTuple):

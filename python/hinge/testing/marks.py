@@ -53,7 +53,7 @@ def words_of(options: Mapping[str, object]) -> str:
     return " ".join(words)
 
 
-def unknown(keywords: Mapping[str, object], there: object) -> WrongMark:
+def unknown_word(keywords: Mapping[str, object], there: object) -> WrongMark:
     """Returns the error for keywords that the mark `link` doesn't support."""
     import difflib
 
@@ -82,7 +82,7 @@ def ends_of(mark: pytest.Mark) -> Ends:
     there, back = (*mark.args, None, None)[:2]
     others = {name: value for name, value in mark.kwargs.items() if name not in TAKES}
     if others:
-        raise unknown(others, there)
+        raise unknown_word(others, there)
     if "back" in mark.kwargs and back is not None:
         raise WrongMark("the mark link has the way back twice; leave one of them out")
     back = mark.kwargs.get("back", back)
@@ -99,7 +99,7 @@ def ends_of(mark: pytest.Mark) -> Ends:
     return Ends(there or "", back)
 
 
-def link_of(item: pytest.Item) -> Ends:
+def link_mark(item: pytest.Item) -> Ends:
     """Returns the words of a test's `link` mark; empty words without a mark."""
     mark = item.get_closest_marker("link")
     return Ends("", None) if mark is None else ends_of(mark)
@@ -222,10 +222,10 @@ def shared_words(item: pytest.Item) -> dict[str, str]:
     return places
 
 
-def fault_of(item: pytest.Item) -> Optional[str]:
+def fault_mark(item: pytest.Item) -> Optional[str]:
     """Returns the error in a test's marks, or None."""
     try:
-        link_of(item)
+        link_mark(item)
         vary_of(item)
         allowed_of(item)
     except ValueError as error:

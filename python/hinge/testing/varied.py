@@ -8,7 +8,7 @@ import asyncio
 from random import Random
 from typing import Any, Coroutine, Optional, TypeVar
 
-from hinge.fault_lines import CRASH, CUT, HOLD, SKEW, Act, Either
+from hinge.fault_lines import CRASH, CUT, HOLD, SKEW, Act, AnyFault
 from hinge.faults import FaultyNetwork
 from hinge.testing.marks import Span, Variation
 from hingetulip.aio import Host, Link
@@ -96,7 +96,7 @@ class VariedNetwork(FaultyNetwork):
             varied_twice = lambda number: random_of_copies.random() < chance or bool(is_twice and is_twice(number))
         return varied_late, varied_twice
 
-    def faults_met(self) -> list[Either]:
+    def faults_met(self) -> list[AnyFault]:
         """Returns everything that the seed drew as faults. A cut is reported as the packets that it lost."""
         acts = [act for drawn in self.drawn_acts.values() for act in drawn if act.kind != CUT]
         return [*super().faults_met(), *self.skews, *sorted(acts)]

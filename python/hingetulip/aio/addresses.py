@@ -44,7 +44,7 @@ def is_group(address: str) -> bool:
 GROUPS = frozenset(map(str, range(224, 240)))  # the first bytes of IPv4 groups
 
 
-def plain(address: Any) -> str:
+def plain_address(address: Any) -> str:
     """Returns an address or name in the network's form: without a scope, and without the IPv6 prefix of a mapped IPv4 address."""
     text = address.decode() if isinstance(address, (bytes, bytearray)) else str(address)
     text = text.partition("%")[0]

@@ -15,7 +15,7 @@ from unittest import mock
 
 from hingetulip.aio.border import joining, leave
 from hingetulip.aio.datagram import NS
-from hingetulip.aio.member import IDLE, LONGEST, PATIENCE, Ended, Member, Ready, bounded_pipe, own_read, own_time, pause, quiet
+from hingetulip.aio.member import IDLE, LONGEST, PATIENCE, MemberEnd, Member, Ready, bounded_pipe, own_read, own_time, pause, quiet
 from hingetulip.aio.refusals import ALLOWED, BLOCKS, HANGS, RealTimeError
 from hingetulip.aio.switched import Function, of_run, own_of
 from hingetulip.library import NEVER
@@ -114,7 +114,7 @@ class Baton:
         if self.is_leaving:
             return self._wait_outside(member, ready, seconds)
         if self.is_closing:
-            raise Ended
+            raise MemberEnd
         return member.is_ready
 
     def _wait_outside(self, member: Member, ready: Ready, seconds: Optional[float]) -> bool:

@@ -45,14 +45,14 @@ def load_library() -> Optional[Any]:
     return None
 
 
-LIBRARY = load_library()
+CLOCK_LIBRARY = load_library()
 joining: list[Callable[[], object]] = []  # the functions that a thread calls when it joins the run; none without a run
 
 
 def leave() -> None:
     """Makes this thread's C code use the system's clock and random numbers again."""
-    if LIBRARY is not None:
-        LIBRARY.hinge_run(None, 0, 0)
+    if CLOCK_LIBRARY is not None:
+        CLOCK_LIBRARY.hinge_run(None, 0, 0)
 
 
 os.register_at_fork(after_in_child=leave)
@@ -61,11 +61,11 @@ os.register_at_fork(after_in_child=leave)
 def calls() -> Counter[str]:
     """Returns how often libraries called real functions since the last call, such as `libzmq.so.5 connect`."""
     counts = Counter[str]()
-    if LIBRARY is None:
+    if CLOCK_LIBRARY is None:
         return counts
     library, function = c_char_p(), c_char_p()
     for place in range(BEHIND):
-        count = LIBRARY.hinge_called(place, library, function)
+        count = CLOCK_LIBRARY.hinge_called(place, library, function)
         if count == BEHIND:
             break
         if count:
@@ -81,8 +81,8 @@ def loader_in_run(own: Callable[..., Any]) -> Callable[..., Any]:
         try:
             return own(*arguments, **keywords)
         finally:
-            if LIBRARY is not None:
-                LIBRARY.hinge_border()
+            if CLOCK_LIBRARY is not None:
+                CLOCK_LIBRARY.hinge_border()
             switch_copy(getattr(arguments[0], "__name__", ""))
 
     return load
@@ -99,16 +99,16 @@ def border(clock: Clock, epoch: int, source: Random) -> Iterator[None]:
     import _imp
 
     loads = (_imp, "create_dynamic"), (_imp, "exec_dynamic"), (_imp, "exec_builtin"), (_ctypes, "dlopen")
-    if LIBRARY is not None:
-        LIBRARY.hinge_border()
+    if CLOCK_LIBRARY is not None:
+        CLOCK_LIBRARY.hinge_border()
         calls()
-        run = LIBRARY.hinge_run
+        run = CLOCK_LIBRARY.hinge_run
         joining.append(lambda: run(clock.place, epoch, source.getrandbits(64)))
         joining[-1]()
     try:
         with switched(dict.fromkeys(loads, loader_in_run)):
             yield
     finally:
-        if LIBRARY is not None:
+        if CLOCK_LIBRARY is not None:
             joining.pop()
             leave()

@@ -8,7 +8,7 @@ import struct
 from collections import deque
 from typing import TYPE_CHECKING, Any, Iterable, Optional
 
-from hingetulip.aio.addresses import ANY, ANY_OF_6, OWN, any_of, is_group, plain, version_of
+from hingetulip.aio.addresses import ANY, ANY_OF_6, OWN, any_of, is_group, plain_address, version_of
 from hingetulip.aio.datagram import NS, Datagram
 from hingetulip.aio.endpoint import Endpoint, fault
 from hingetulip.aio.host import Host, current_host, here
@@ -142,7 +142,7 @@ class DatagramSocket(HostlessSocket):
 
         OSError: the port is in use, the address isn't the host's, or the socket is bound already.
         """
-        name = plain(address[0])
+        name = plain_address(address[0])
         port = address[1]
         host = here.get(None)
         if name in (ANY, ANY_OF_6, *OWN):

@@ -7,7 +7,7 @@ import os
 import socket
 from typing import TYPE_CHECKING, Any, Optional, Protocol
 
-from hingetulip.aio.addresses import ANY, ANY_OF_6, BROADCAST, MAPPED, OWN, is_group, is_of_6, plain
+from hingetulip.aio.addresses import ANY, ANY_OF_6, BROADCAST, MAPPED, OWN, is_group, is_of_6, plain_address
 from hingetulip.aio.datagram import HEADERS_OF_6, MOST_BYTES, Address, Datagram, headers
 
 if TYPE_CHECKING:
@@ -102,7 +102,7 @@ class Endpoint:
         if name in net.numbers:
             known: str = name
             return known
-        text = plain(name)
+        text = plain_address(name)
         if text in OWN or text in (ANY, ANY_OF_6):
             return self.host.address
         if text in net.hosts and text not in net.numbers:

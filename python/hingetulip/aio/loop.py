@@ -10,7 +10,7 @@ from collections import deque
 from typing import TYPE_CHECKING, Any, Callable, NoReturn, Optional, TypeVar
 
 from hingetulip.aio.baton import Baton
-from hingetulip.aio.addresses import ANY, ANY_OF_6, OWN, any_of, is_of_6, plain, version_of
+from hingetulip.aio.addresses import ANY, ANY_OF_6, OWN, any_of, is_of_6, plain_address, version_of
 from hingetulip.aio.clock import Clock
 from hingetulip.aio.datagram import Address
 from hingetulip.aio.datagram_socket import DatagramSocket
@@ -197,7 +197,7 @@ class Loop(asyncio.BaseEventLoop):
         a Unix socket's. OSError: the local address is another host's, or the port is in use. gaierror: there is no such host."""
         if family == socket.AF_UNIX or isinstance(local or remote, str):
             raise NotImplementedError(NO_SYSTEM)
-        names = [plain(address[0] or "localhost") for address in (local, remote) if address]
+        names = [plain_address(address[0] or "localhost") for address in (local, remote) if address]
         version = 6 if any(map(is_of_6, names)) and names[0] != "::1" else 4
         if family:
             version = version_of(family)

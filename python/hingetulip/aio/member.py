@@ -21,13 +21,13 @@ IDLE = 0.01  # s of processor time in a second of PATIENCE, below which the proc
 own_time, own_read = own_of(time, "monotonic"), own_of(posix, "read")
 
 
-class Ended(SystemExit):
+class MemberEnd(SystemExit):
     """Raised in a waiting thread when its network is closed, so that the thread ends."""
 
 
 def quiet(hook: Callable[[Any], object]) -> Callable[[Any], object]:
     """Returns a hook for unhandled exceptions in threads that ignores `Ended`."""
-    return lambda arguments: None if arguments.exc_type is Ended else hook(arguments)
+    return lambda arguments: None if arguments.exc_type is MemberEnd else hook(arguments)
 
 
 def bounded_pipe(seconds: float = PATIENCE) -> tuple[int, int]:

@@ -7,7 +7,7 @@ import socket
 from types import ModuleType
 from typing import TYPE_CHECKING, Any
 
-from hingetulip.aio.addresses import ANY, ANY_OF_6, FLAGS, OWN, is_address, is_of_6, plain, port_of
+from hingetulip.aio.addresses import ANY, ANY_OF_6, FLAGS, OWN, is_address, is_of_6, plain_address, port_of
 from hingetulip.aio.datagram import UDP
 from hingetulip.aio.host import current_host, here
 from hingetulip.aio.switched import Either
@@ -57,7 +57,7 @@ class Names:
         addresses that stand for all. gaierror: there is no such host."""
         if host is None:
             return (ANY, ANY_OF_6) if is_passive else current_host().addresses
-        name = plain(host)
+        name = plain_address(host)
         if name in OWN:
             return current_host().addresses
         if is_address(name):

@@ -8,7 +8,7 @@ from contextlib import contextmanager
 from pathlib import Path
 from typing import Iterator, Optional
 
-from hingetulip.aio.border import LIBRARY
+from hingetulip.aio.border import CLOCK_LIBRARY
 
 LOADED = re.compile(r"(/\S*libcrypto[^/\s]*\.so\S*)$", re.M)
 FUNCTIONS = "seed", "bytes", "cleanup", "add", "pseudorand", "status"
@@ -36,13 +36,13 @@ def libcrypto() -> Optional[ctypes.CDLL]:
 def random_of_openssl(seed: int) -> Iterator[None]:
     """Makes OpenSSL's random numbers follow from a seed within the context, if there is hinge-clock.so."""
     library = libcrypto()
-    if library is None or LIBRARY is None:
+    if library is None or CLOCK_LIBRARY is None:
         yield
         return
     library.RAND_OpenSSL.restype = ctypes.c_void_p
     method = Method.from_buffer_copy(Method.from_address(library.RAND_OpenSSL()))
-    method.bytes = method.pseudorand = ctypes.cast(LIBRARY.hinge_random, ctypes.c_void_p)
-    LIBRARY.hinge_seed(seed)
+    method.bytes = method.pseudorand = ctypes.cast(CLOCK_LIBRARY.hinge_random, ctypes.c_void_p)
+    CLOCK_LIBRARY.hinge_seed(seed)
     library.RAND_set_rand_method(ctypes.byref(method))
     try:
         yield

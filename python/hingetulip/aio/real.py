@@ -16,7 +16,7 @@ from importlib import import_module
 from typing import TYPE_CHECKING, Any, Iterator
 
 from hingetulip.aio.addresses import FLAGS
-from hingetulip.aio.border import LIBRARY, calls
+from hingetulip.aio.border import CLOCK_LIBRARY, calls
 from hingetulip.aio.refusals import ALLOWED, NO_TCP, OF_C, SOCKET, RealTimeError
 from hingetulip.aio.selecting import Selecting
 from hingetulip.aio.switched import Either, Function, note_all, of_run, switched
@@ -25,7 +25,7 @@ from hingetulip.aio.thread_functions import ThreadFunctions
 if TYPE_CHECKING:
     from hingetulip.aio.descriptors import Descriptors
 
-UNWATCHED = ["what C code did wasn't watched, without hinge-clock.so"] if LIBRARY is None else []
+UNWATCHED = ["what C code did wasn't watched, without hinge-clock.so"] if CLOCK_LIBRARY is None else []
 REACHING = ("socket.connect", "socket.bind", "socket.sendto", "socket.sendmsg")  # audit events of calls that reach the network
 OF_PROCESSES = ("subprocess.Popen", "os.system", "os.fork", "os.forkpty", "os.posix_spawn", "os.exec", "pty.spawn")
 SPAWNED = "_posixsubprocess.fork_exec"

@@ -7,7 +7,7 @@ from typing import Optional
 from hinge.pictures.drawing import Line, Panel
 from hinge.pictures.drawn import series_of
 from hinge.pictures.panels import Panels
-from hinge.replays.history import read_history
+from hinge.replays.history import read_history_source
 from kit import folder, live, recorded, run, write
 
 HEAD = "moment,target,number,src,dst,proto,sport,dport,len,word"
@@ -37,7 +37,7 @@ def pipes(path: str) -> Optional[list[dict[str, Optional[int]]]]:
 
 def delays(path: str) -> Panel:
     """The panel of the delays."""
-    panel = Panels(series_of([read_history(path)], "tuple", None, None)[0]).delays()
+    panel = Panels(series_of([read_history_source(path)], "tuple", None, None)[0]).delays()
     assert panel is not None
     return panel
 

@@ -15,7 +15,7 @@ from unittest import mock
 
 from hinge import command
 from hinge.border.files import Exceeded
-from hinge.program import HINGE, dummynet, packets
+from hinge.program import HINGE, dummynet, packets_program
 from kit import MIXED, TOP, folder, write
 
 CLEARED = "\r\x1b[K"
@@ -197,7 +197,7 @@ class OfPrograms(unittest.TestCase):
         for end, commands in ((before, OF_PACKETS), (within, OF_PACKETS), (behind, OF_PACKETS[-1:])):
             for words in commands:
                 with self.subTest(end=end, words=words):
-                    message = self.told("HINGE_PACKETS", packets(), end, words)
+                    message = self.told("HINGE_PACKETS", packets_program(), end, words)
                     self.assertEqual(message, f"hinge {words[0]}: hinge-packets was ended by SIGKILL\n")
 
 

@@ -9,7 +9,7 @@ import unittest
 from unittest.mock import patch
 
 from hinge.program import dummynet
-from hinge.replays.history import read_history
+from hinge.replays.history import read_history_source
 from hinge.replays.replay import NONE, OUT, Replay, read_packets, read_report
 from kit import TOP, folder, history_of, live, mixed, needs_tshark, run, write
 
@@ -35,7 +35,7 @@ class Forms(unittest.TestCase):
         rng = random.Random(5)
         for cut in sorted(rng.sample(range(len("dummynet-history,3\n"), len(whole)), 60)):
             text = whole[:cut]
-            told = read_history(str(write("cut.history", text)))
+            told = read_history_source(str(write("cut.history", text)))
             kept = [line for line in text.split("\n")[:-1] if line and line[0] != "#"]
             wanted = [sum(line.startswith(begin) for line in kept) for begin in (("r,queued", "r,full"), "d,")]
             self.assertEqual([len(told.replay.packets), int(told.replay.is_out.sum())], wanted, text)
@@ -58,7 +58,7 @@ class Forms(unittest.TestCase):
         ]
         for form in forms:
             (folder() / "form.history").write_bytes(form.encode())
-            told = read_history(str(folder() / "form.history"))
+            told = read_history_source(str(folder() / "form.history"))
             columns = [getattr(told.replay, name).tolist() for name in ("event", "at", "due")]
             self.assertEqual(columns, [[OUT, NONE], [5, 6], [1_000_005, -1]])
             self.assertEqual((told.configuration is None, told.cut), (False, None))
@@ -119,9 +119,9 @@ class Blocks(unittest.TestCase):
         for name in ("dsl", "shared"):
             _, packets, report = mixed(name)
             path = history_of(name)
-            wanted = told(read_history(path).replay), told(read_report(str(report), read_packets(str(packets))))
+            wanted = told(read_history_source(path).replay), told(read_report(str(report), read_packets(str(packets))))
             with patch.dict(os.environ, HINGE_PACKETS=reader(61)):
-                found = told(read_history(path).replay), told(read_report(str(report), read_packets(str(packets))))
+                found = told(read_history_source(path).replay), told(read_report(str(report), read_packets(str(packets))))
             self.assertEqual(found, wanted, name)
 
     def test_a_transcript(self) -> None:
@@ -132,10 +132,10 @@ class Blocks(unittest.TestCase):
         readers = [reader(size) for size in (1, 7, 300)]
         for form in (text, text.replace("\n", "\r\n"), text.replace("pipe,1", '"pipe","1"'), text[:-6], text + "\n\n"):
             path.write_bytes(form.encode())
-            one = read_history(str(path))
+            one = read_history_source(str(path))
             for other_reader in readers:
                 with patch.dict(os.environ, HINGE_PACKETS=other_reader):
-                    other = read_history(str(path))
+                    other = read_history_source(str(path))
                 self.assertEqual(told(other.replay), told(one.replay))
                 for name in ("changes", "cut", "seed", "is_history", "configuration"):
                     self.assertEqual(getattr(other, name), getattr(one, name), name)

@@ -11,7 +11,7 @@ from hinge.pictures.figures import table_of
 from hinge.pictures.panels import Panels
 from hinge.pictures.series import series
 from hinge.replays.groups import group
-from hinge.replays.history import read_history
+from hinge.replays.history import read_history_source
 from hinge.replays.source import of_reports, seen
 from hinge.run.page import HEAD, WAY, Counts
 from hinge.run.summary import record
@@ -53,7 +53,7 @@ class Look(unittest.TestCase):
         self.assertEqual(drawn[0], drawn[1])
         of_report, of_history = (
             series_of(sources, "tuple", 3, None)[0]
-            for sources in (of_reports(str(packets), [str(report)], str(config)), [read_history(history_of("dsl"))])
+            for sources in (of_reports(str(packets), [str(report)], str(config)), [read_history_source(history_of("dsl"))])
         )
         self.assertGreater(len(of_report.flows), 2)
         for flow, other in zip(of_report.flows, of_history.flows):
@@ -68,7 +68,7 @@ class Look(unittest.TestCase):
     def test_its_paragraphs_are_those_of_why(self) -> None:
         for name in ("dsl", "shared"):
             config, packets, report = mixed(name)
-            count = len(read_history(history_of(name)).replay.packets)
+            count = len(read_history_source(history_of(name)).replay.packets)
             rows = range(1, count + 1, max(1, count // 50))
             wanted = run("why", *rows, config, packets, report).stdout
             for words in (("why", *rows, history_of(name)), ("why", *rows, packets, report, "--config", config)):
@@ -100,7 +100,7 @@ class Look(unittest.TestCase):
         self.assertEqual((done.returncode, done.stderr), (0, ""))
         [*_, every] = json.loads((folder() / "changed.json").read_text())["flows"]
         self.assertEqual([every[f"{part}_ns"] for part in ("queueing", "transmission", "link_delay")], [500_000, 4_500_000, 0])
-        capacity = [(at, text) for at, text in read_history(str(folder() / "changed.history")).changes]
+        capacity = [(at, text) for at, text in read_history_source(str(folder() / "changed.history")).changes]
         self.assertEqual([at for at, _ in capacity], [0, 0])
 
     def test_a_jitter_and_an_outage_add_no_packets(self) -> None:
@@ -112,7 +112,7 @@ class Look(unittest.TestCase):
         head, rest = live([*lines, "c,0,collect,3000000000"]).split("\n", 1)
         words = "8Mbit/s jitter 5ms, twice"
         (folder() / "twice.history").write_text(f"{head}\n#,seed,7\n#,asked,--up,0,{words}\n{rest}")
-        source = read_history(str(folder() / "twice.history"))
+        source = read_history_source(str(folder() / "twice.history"))
         found = seen(source)
         self.assertEqual((len(found.replay.packets), found.replay.took.tolist(), found.rows.tolist()), (1, [4_000_000], [0]))
         self.assertEqual([text.split()[-1] for _, text in found.changes], ["8000000bit/s"] * 2)
@@ -127,7 +127,7 @@ class Look(unittest.TestCase):
         late = "#,late,1000000000,35000000,0,2000,1000\n#,late,bad\n#,late,2000000000,1000,81000000,0,0\n"
         told = f"{head}\n#,seed,77\n{rest[:last]}{late}{rest[last:]}"
         (folder() / "late.history").write_text(told)
-        found = read_history(str(folder() / "late.history"))
+        found = read_history_source(str(folder() / "late.history"))
         self.assertEqual((found.seed, list(found.lateness)), ("77", ["up", "down"]))
         moments, ms = found.lateness["up"]["unread"]
         self.assertEqual((moments.tolist(), ms.tolist()), ([1, 2], [0, 81]))

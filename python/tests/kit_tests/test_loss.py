@@ -15,7 +15,7 @@ from hinge.captures.targets import UP, Targets, directions, read_rule
 from hinge.loss import KEPT, LOST, Bernoulli, BurstsByTime, Chosen, GilbertElliott, Listed, Words, read_model
 from hinge.pictures.drawn import provenance_of
 from hinge.replays.history import read_sources
-from hinge.run.rules import Rule
+from hinge.run.rules import WayRule
 from hinge.run.words import Wrong
 from hingetulip.aio import Network
 from hingetulip.records import Outcome
@@ -212,7 +212,7 @@ class Rules(unittest.TestCase):
         for _ in range(3000):
             kinds = rng.sample(list(CHOICES), rng.randint(0, 3))
             text = " ".join([*(rng.choice(CHOICES[kind]) for kind in kinds), "=> queue 7"])
-            live = Rule(text)
+            live = WayRule(text)
             of_capture = read_rule(text)
             frame = random_frame(rng)
             way = rng.randint(0, 1)
@@ -230,7 +230,7 @@ class Rules(unittest.TestCase):
                 with self.assertRaises(BadRule) as of_capture:
                     read_rule(text)
                 with self.assertRaises(Wrong) as live:
-                    Rule(text)
+                    WayRule(text)
                 self.assertTrue(str(of_capture.exception).startswith(told), of_capture.exception)
                 self.assertEqual(str(live.exception), f"--map {text}: {of_capture.exception}")
 

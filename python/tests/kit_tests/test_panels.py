@@ -15,7 +15,7 @@ from hinge.captures.packet_rows import HEADER
 from hinge.configurations.configured import spelled_lines
 from hinge.pictures.panels import CAUSE_COLORS, COLORS, PIPES, RESTS, drawing, percentiles
 from hinge.pictures.panels import Panels as PanelsOf
-from hinge.pictures.series import NS_PER_S, Steps, series, span_of, waiting
+from hinge.pictures.series import NS_PER_S, TimeSteps, series, span_of, waiting
 from hinge.replays.groups import group
 from hinge.replays.replay import read_packets
 from hinge.replays.source import of_reports
@@ -137,7 +137,7 @@ class Panels(unittest.TestCase):
 
     def test_percentiles_are_nearest_ranks(self) -> None:
         moments, values = np.array([0, 1, 2, 3, 12, 13]), np.array([4.0, 1.0, 3.0, 2.0, 7.0, 9.0])
-        low, middle, high = percentiles(moments, values, Steps(5, 20))
+        low, middle, high = percentiles(moments, values, TimeSteps(5, 20))
         assert [row[[0, 2]].tolist() for row in (low, middle, high)] == [[1, 7], [2, 7], [4, 9]]
         assert np.isnan(low[[1, 3]]).all()
 

@@ -17,7 +17,7 @@ from hinge.pictures.drawn import of_run
 from hinge.pictures.html_page import HtmlPage, outline, teller
 from hinge.pictures.operations import Shade, operations_drawing, shades_of
 from hinge.pictures.panels import MOST_FLOWS, drawing
-from hinge.pictures.series import NS_PER_MS, NS_PER_S, Series, Steps, fitting_step, round_step, series, span_of, thinned
+from hinge.pictures.series import NS_PER_MS, NS_PER_S, Series, TimeSteps, fitting_step, round_step, series, span_of, thinned
 from hinge.replays.explain import Explainer
 from hinge.replays.groups import group
 from hinge.replays.history import read_sources
@@ -221,7 +221,7 @@ class Thinning(unittest.TestCase):
 
     def test_steps_end_with_the_span(self) -> None:
         for span, rated, width in ((10, 1, 10), (14, 1, 10), (15, 2, 5), (19, 2, 9), (20, 2, 10), (3, 1, 3), (0, 1, 1)):
-            steps = Steps(10, span)
+            steps = TimeSteps(10, span)
             self.assertEqual((steps.rated, int(steps.widths[-1])), (rated, width), span)
             self.assertEqual(len(steps.edges), rated + 1)
 

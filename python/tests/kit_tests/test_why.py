@@ -16,7 +16,7 @@ from hinge.replays.explain import Explainer
 from hinge.replays.links import Parts
 from oracle import STYLES, FastDummynet, call_text, configured, random_calls, reply_lines
 from hinge.captures.random_words import word
-from hinge.replays.history import read_history
+from hinge.replays.history import read_history_source
 from hinge.replays.replay import EVENT_NAMES
 from model import Collect, FiveTuple, Full, Packet, Submit, Target
 
@@ -156,7 +156,7 @@ class Changed(unittest.TestCase):
                 lines += [call_text(caller, call), *reply_lines(net.apply(call), 3)]
             path = write("changed.history", "\n".join([*lines, f"end,{len(calls)}"]) + "\n")
             later = {one.packet: one for one in net.apply(Collect(2 * LAST - 1)).list}
-            self.judge(Explainer(read_history(str(path)).explained()), queues, later, kinds, seed)
+            self.judge(Explainer(read_history_source(str(path)).explained()), queues, later, kinds, seed)
         wanted = {"out", "changed", "behind", "lost", "cut", "full", "discarded", "held", "leaves"}
         assert wanted - set(kinds) == set(), kinds
 

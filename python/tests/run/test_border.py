@@ -20,7 +20,7 @@ from test_control import InAFolder
 from hinge.border.programs import can_be_read
 from hinge.run.cgroups import name_of, own_folder, remove_left
 from hinge.run.control import Control
-from hinge.run.host_lines import UNTAKEN, Answer
+from hinge.run.host_lines import UNTAKEN, LinkReply
 from hinge.run.page import Page
 
 ODD = (
@@ -121,11 +121,11 @@ class OfClients(InAFolder):
         control = Control(str(self.socket), plan, Page(), plan.read, dict)
         self.addCleanup(control.end)
 
-        def ask(text: str, until: object = None, is_wanted: object = None) -> Answer:
+        def ask(text: str, until: object = None, is_wanted: object = None) -> LinkReply:
             if text == "moment":
-                return Answer(5, "", "")
+                return LinkReply(5, "", "")
             taken.append(text.rpartition(" ")[0])
-            return Answer(5, UNTAKEN if is_refused else "", "begun\nended")
+            return LinkReply(5, UNTAKEN if is_refused else "", "begun\nended")
 
         control.lines.ask = ask  # type: ignore[method-assign, assignment]
         for is_refused in (False, True):

@@ -10,7 +10,7 @@ from hinge.net.description import read_description
 from hinge.net.net_plan import NetPlan
 from hinge.net.running import Net
 from hinge.run.control import Control
-from hinge.run.host_lines import Answer
+from hinge.run.host_lines import LinkReply
 from hinge.run.page import Page
 from hinge.run.plan import Plan
 from hinge.run.words import Wrong
@@ -47,9 +47,9 @@ class OneRule(WithFolder):
         taken, plan = list[str](), begun()
         control = Control(str(self.folder / "s"), plan, Page(), plan.read, dict)
 
-        def ask(text: str, until: object = None, is_wanted: object = None) -> Answer:
+        def ask(text: str, until: object = None, is_wanted: object = None) -> LinkReply:
             taken.append(text.removeprefix("line "))
-            return Answer(5, "", "")
+            return LinkReply(5, "", "")
 
         control.lines.ask = ask  # type: ignore[method-assign, assignment]
         try:

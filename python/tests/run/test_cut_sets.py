@@ -19,7 +19,7 @@ from hinge.plans.judged import Judge
 from hinge.plans.meaning import Meaning
 from hinge.run.changes import Happening
 from hinge.run.control import Control
-from hinge.run.host_lines import Answer, HostLines
+from hinge.run.host_lines import LinkReply, HostLines
 from hinge.run.page import Page
 from hinge.run.words import Wrong
 
@@ -94,14 +94,14 @@ class ByOtherWays(OfNets):
         moment, taken = 0, list[tuple[int, str]]()
 
         class Lines(HostLines):
-            def ask(self, text: str, *_: object) -> Answer:
+            def ask(self, text: str, *_: object) -> LinkReply:
                 kind, _, line = text.partition(" ")
                 later, _, behind = line.partition(" ") if kind in ("at", "outage") else ("0", "", line)
                 if kind == "outage":
                     taken.extend([(moment, behind), (moment + int(later), behind.replace("cut", "open", 1))])
                 elif kind != "moment" and not line.startswith("remark "):
                     taken.append((moment + int(later), behind))
-                return Answer(moment, "", "the line\nand that behind the end")
+                return LinkReply(moment, "", "the line\nand that behind the end")
 
         def obey(words: str, moment: int) -> "list[Happening]":
             return made.happenings(parse(words, made.net), moment, made.plan.changes)

@@ -6,7 +6,7 @@ import unittest
 
 from linked import Linked, found, needs_host, plan_of, state_of, stopped, udp, until, with_lines
 
-from hinge.run.page import Way
+from hinge.run.page import WayCounts
 
 
 @needs_host
@@ -165,7 +165,7 @@ class OfStops(unittest.TestCase):
         self.link = Linked(f"epoch {self.epoch}\nline pipe 1 config\nline pipe 2 config\n")
         until(lambda: state_of(self.link.process.pid) == "S")  # a stop is one of its sleep
 
-    def lain(self, looked: int) -> Way:
+    def lain(self, looked: int) -> WayCounts:
         """Returns the upward counts at the link's end. The unread packet waited at most since the moment of the host's check."""
         self.link.far.recv(2000)
         now, up = time.monotonic_ns() - self.epoch, self.link.end().counts.ways[0]

@@ -21,14 +21,14 @@ import pytest
 from hinge.__main__ import COMMANDS
 from hinge.commands.docs import folder_of_pages
 from hinge.commands.run import options
-from hinge.foreign import answer_of
-from hinge.foreign_options import OF_LINK, OPTIONS
+from hinge.foreign import replacement_of
+from hinge.foreign_options import LINK_OPTIONS, FOREIGN_OPTIONS
 from hinge.foreign_words import WORDS
 from hinge.run import hints as hints_of_run
 from hinge.run.hints import far_host, hints, lacking, link_as_command
 from hinge.run.plan_of_options import plan_of
 from hinge.run.settings import RunOptions
-from hinge.run.words import Wrong, link_of
+from hinge.run.words import Wrong, read_link_words
 from hingetulip_words.link import Place, corrected
 from linked import needs, needs_rooms
 from with_folder import WithFolder
@@ -71,7 +71,7 @@ class Lines(unittest.TestCase):
         assert len(FOREIGN) > 100
         for line, wanted in FOREIGN:
             with self.subTest(line):
-                answer = answer_of(shlex.split(line))
+                answer = replacement_of(shlex.split(line))
                 assert (answer and answer.text()) == wanted
                 words = shlex.split(re.sub(r"\$\(.*?\)", "PID", answer.write if answer else "").replace("sudo ", ""))
                 if words[:2] == ["hinge", "run"] and "--up-trace" not in words:
@@ -83,7 +83,7 @@ class Lines(unittest.TestCase):
         for words in (shlex.split(line) for line, _ in FOREIGN):
             for place, other in product(range(len(words)), (["10Mbps"], ["200%"], [""], ["--"], ["--", "10ms"], [])):
                 variant = [*words[:place], *other, *words[place + 1 :]]
-                answer = answer_of(variant) if variant and variant[0] else None
+                answer = replacement_of(variant) if variant and variant[0] else None
                 lines.add(answer.write if answer else "")
         for line in sorted(lines):
             own = shlex.split(line.replace("sudo ", ""))
@@ -107,7 +107,7 @@ class Lines(unittest.TestCase):
                 first, *words = write.replace(",", "").replace(";", "").split()
                 assert first in ("hinge", "dummynet", "./install")
                 assert first != "hinge" or words[0] in (*COMMANDS, "--version"), answer.write
-        assert answer_of(["frobnicate"]) is None
+        assert replacement_of(["frobnicate"]) is None
 
     def test_pages_are_there(self) -> None:
         for page in {answer.page for answer in WORDS.values() if answer.page}:
@@ -150,7 +150,7 @@ class Typed(WithFolder):
         self.addCleanup(typed, self.folder, "hinge down NAME")
 
     def test_a_hundred_lines_of_other_manuals_get_what_works_as_it_stands(self) -> None:
-        answers = [answer_of(shlex.split(line)) for line, _ in FOREIGN]
+        answers = [replacement_of(shlex.split(line)) for line, _ in FOREIGN]
         # One of --container joins a network of another process: test_joined has one.
         texts = [answer.write for answer in answers if answer and answer.write and "--container" not in answer.write]
         each = [text for text in dict.fromkeys(texts) if not text.startswith("hinge down")]
@@ -175,7 +175,7 @@ class Links(unittest.TestCase):
 
     def test_a_refusal_has_the_whole_text(self) -> None:
         with pytest.raises(Wrong) as refusal:
-            link_of("10mbit 20ms jitter 5ms", "--up", Place.RUN)
+            read_link_words("10mbit 20ms jitter 5ms", "--up", Place.RUN)
         assert str(refusal.value).endswith("; in full: '10Mbit/s 20ms jitter 5ms'"), refusal.value
 
 
@@ -186,13 +186,13 @@ class Options(unittest.TestCase):
             for word in "jitter=5ms limit=30 queue=30 target-bw=1000 plr=0.1 rate=1mbit bandwidth=10Mbps bw=56k speed=1Gbit/s"
             " duplicate=1 rtt=4".split()
         )
-        for option in OF_LINK:
+        for option in LINK_OPTIONS:
             with self.subTest(option):
                 said = refused([option, values.get(option[2:], "5"), "true"])
                 words = shlex.split(said.partition(": write ")[2].partition("; ")[0])
                 assert words[0] == "--link", said
                 plan_of(run_options([*words, "true"]), 1500)
-        for option, (_, has_value) in OPTIONS.items():
+        for option, (_, has_value) in FOREIGN_OPTIONS.items():
             with self.subTest(option):
                 said = refused([option, *(["5"] if has_value else []), "true"])
                 assert f"{option}: write " in said

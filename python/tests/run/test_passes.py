@@ -15,9 +15,9 @@ from hinge.captures.random_words import word
 from hinge.command_line import Parser
 from hinge.run.options import add_link, add_run
 from hinge.run.plan_of_options import plan_of
-from hinge.run.page import Way
+from hinge.run.page import WayCounts
 from hinge.run.settings import LiveOptions
-from hinge.run.words import Wrong, link_of
+from hinge.run.words import Wrong, read_link_words
 from hingetulip_words.link import CERTAIN, Extra, Place
 
 OF_JITTER, OF_COPIES, OF_CORRUPTION, OF_BITS = (
@@ -41,7 +41,7 @@ def udp(number: int) -> bytes:
 
 @needs_host
 class OfPasses(unittest.TestCase):
-    def sent(self, plan: str, wanted: Sequence[int]) -> tuple[Ended, Way]:
+    def sent(self, plan: str, wanted: Sequence[int]) -> tuple[Ended, WayCounts]:
         """Returns a host's result and its upward counts for COUNT packets, if these packets arrive in this order."""
         link = Linked(SEEDS + plan)
         for number in range(COUNT):
@@ -124,7 +124,7 @@ class OfWords(unittest.TestCase):
             ("duplicate 100%", "pipe 1 config", Extra(0, CERTAIN)),
             ("corrupt 25%", "pipe 1 config", Extra(0, 0, CERTAIN // 4)),
         ):
-            link = link_of(text, "x", Place.KERNELS)
+            link = read_link_words(text, "x", Place.KERNELS)
             assert (link.line(1), link.extra) == (line, extra)
 
     def test_a_plan_has_a_pipe_for_each_delay(self) -> None:

@@ -4,7 +4,7 @@ import time
 
 from hinge.run.plan import Plan
 from hinge.run.traces import Rate, read_trace
-from hinge.run.words import Wrong, of_link
+from hinge.run.words import Wrong, with_plan_pipes
 from net_files import OfFiles
 
 BIN = 100_000_000  # ns
@@ -124,7 +124,7 @@ class Timelines(OfFiles):
             ("pipe 9 config", "pipe 9 config"),
             ("pipe", "pipe"),
         ):
-            assert (of_link(text, 3), of_link(text, 0)) == (wanted, text)
+            assert (with_plan_pipes(text, 3), with_plan_pipes(text, 0)) == (wanted, text)
 
     def test_lines_that_are_wrong(self) -> None:
         for text in ("soon pipe 1 config\n", "1s outage\n", "1s outage 2s gently\n", "1s up outage 2s\n"):

@@ -12,14 +12,14 @@ from with_folder import WithFolder
 
 from hinge.border import serving
 from hinge.border.asking import ask
-from hinge.border.messages import Order, Reply, line_of, read_message
+from hinge.border.messages import Order, Reply, message_line, read_message
 from hinge.border.serving import LEFT, MOST_CLIENTS, SHORT, Answer as Outcome, Server
 from hinge.run.words import Wrong
 
 
 def test_each_comes_back() -> None:
     for message in (Order(3, change="up 1ms"), Order(status=True), Order(end=True), Reply(3, refused="")):
-        assert read_message(type(message), line_of(message)) == message
+        assert read_message(type(message), message_line(message)) == message
     told = read_message(Reply, b'{"told": [{"moment": 1, "line": "pipe 1 config"}]}').told
     assert [(one.moment, one.line, one.refused) for one in told or []] == [(1, "pipe 1 config", "")]
 
