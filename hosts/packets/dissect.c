@@ -151,7 +151,7 @@ static bool is_jumbo(struct bytes options) {
     if (options.len < 2) return false;
     size_t at = 2, end = front(options, ((size_t)options.at[1] + 1) * 8).len;
     while (at + 1 < end && options.at[at] != JUMBO) at += options.at[at] == PADDING ? 1 : 2u + options.at[at + 1];
-    return at + 1 < options.len && options.at[at] == JUMBO;
+    return at + 1 < end && options.at[at] == JUMBO;
 }
 
 /* The bytes that have to be there of a header that extends IPv6, 0 where a kind is none. */

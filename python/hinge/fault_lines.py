@@ -58,7 +58,7 @@ class Act:
     """Describes an act on a host or link: a cut, a hold or a crash for some seconds, or a new offset for a host's clock."""
 
     moment: float  # s since the beginning
-    kind: str  # one of ACTS
+    kind: str  # one of ACT_KINDS
     of: str  # a host, or for a cut or a hold a link as `client > server`
     seconds: float  # the length, or the clock's offset
 

@@ -267,8 +267,9 @@ def links_of(item: pytest.Item) -> list[str]:
 
 @pytest.hookimpl(tryfirst=True)  # type: ignore[misc]
 def pytest_runtest_protocol(item: pytest.Item, nextitem: Optional[pytest.Item]) -> Optional[bool]:
-    """Runs a test with the mark or the net `simulated` in a separate machine, and with --link-shrink or --link-search a test with
-    sim_net again with other faults. Returns None for other tests, which pytest runs."""
+    """Runs tests that need a simulated machine or several runs. A test with the mark `simulated` or the fixture `simulated_net`
+    runs in a simulated machine; with --link-shrink or --link-search, a test with the fixture `sim_net` runs again with other
+    faults. Returns None for other tests, which pytest runs; the test's setup reports a wrong mark."""
     mark = item.get_closest_marker("simulated")
     names = getattr(item, "fixturenames", ())
     if mark is None and "simulated_net" in names:

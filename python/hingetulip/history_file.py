@@ -51,7 +51,7 @@ class HistoryFile:
 
 
 class Recording:
-    """The history of a single caller, and its file."""
+    """Records the library calls of a single caller (number 0) as a history, and writes the history to a file."""
 
     def __init__(self, path: Union[str, PathLike[str]]) -> None:
         self._file = HistoryFile(path)

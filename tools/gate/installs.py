@@ -205,7 +205,7 @@ def by_pip(tally: Tally, copy: Path, place: Path) -> None:
     for module, name, where_it_is in (
         ("program", "dummynet", "bin/dummynet"),
         ("program", "clock", f"{Path(modules).parent}/hinge-clock.so"),
-        ("program", "packets", f"{Path(modules).parent}/hinge-packets"),
+        ("program", "packets_program", f"{Path(modules).parent}/hinge-packets"),
         ("run.host", "program", f"{Path(modules).parent}/run/hinge-link"),
     ):
         told = done(tally, f"hinge.{module}", own, "-c", f"from hinge.{module} import {name}; print({name}())", cwd=place)

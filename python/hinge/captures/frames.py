@@ -137,7 +137,7 @@ class Capture:
         src, dst, sport, dport, proto, dscp = FLOW.unpack_from(self.flows, flow * FLOW.size)
         return Frame(number, self.address(src), self.address(dst), proto, sport, dport, dscp)
 
-    def packets_program(self) -> Iterator[Packet]:
+    def packets(self) -> Iterator[Packet]:
         """Yields all packets in order of time, if the program answered by frame."""
         for low, high, number, flow, length in FRAME.iter_unpack(self.items or b""):
             yield Packet(self.frame(number & (1 << 48) - 1, flow), (high << 64) + low, length, number >> 48)

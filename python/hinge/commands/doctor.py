@@ -62,7 +62,8 @@ def programs() -> Finding:
 
 
 def first_words() -> Finding:
-    """Returns which programs and files are missing that the first samples of the pages use."""
+    """Finds missing programs and files that the first samples in the documentation need; returns them with the Debian packages
+    to install."""
     packages = {"ping": "iputils-ping", "git": "git", "redis-server": "redis-server"}
     missing = {name: package for name, package in packages.items() if shutil.which(name) is None}
     names = [*missing]

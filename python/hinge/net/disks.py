@@ -46,8 +46,8 @@ def read_disk(statement: Statement) -> Disk:
 
 
 def refuse_disks(path: str, hosts: Iterable[NetHost], simulated: bool) -> None:
-    """Checks that disks are possible here. Wrong: the net runs in real time. Missing: the program that creates disks isn't
-    installed."""
+    """Checks that the hosts' disks can be created, if any host has disks. Wrong: the net runs in real time. Missing: the program
+    that creates disks isn't installed."""
     if any(host.disks for host in hosts):
         if not simulated:
             raise Wrong(f"{path}: disk: {IN_REAL_TIME}")

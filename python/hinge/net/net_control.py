@@ -59,7 +59,8 @@ class NetRequests:
             raise Wrong(f"{act.word}: nothing runs on {act.host}{hint}")
 
     def status(self) -> dict[str, object]:
-        """Returns the counts so far, the statuses of commands that have ended, and the optional ports that are missing."""
+        """Returns the answer to `hinge status`: the packets counted so far, the statuses of commands that have ended, and
+        messages about optional ports at which nothing listens."""
         net = self.net
         endings = {name: net.processes.ended[pid] for name, pid in net.started.items() if pid in net.processes.ended}
         return {**net_record(net.net, net.page.read(), net.rooms.dropped(), {}), "ended": endings, "silent": net.silent}

@@ -160,7 +160,8 @@ def in_ipv6(do: Callable[[], None]) -> None:
 
 
 class NetRooms:
-    """Creates all hosts' rooms. Create the object in the net's first process."""
+    """Creates a room for each host of a net: a network namespace with interfaces, names, addresses and routes. Create the object
+    in the net's first process."""
 
     def __init__(self, net: Description, mtu: int) -> None:
         self.ends = NetEnds(net)

@@ -54,7 +54,9 @@ class Gap(NamedTuple):
 
 
 def gap(net: Description) -> Optional[Gap]:
-    """Returns the first gap in a net at a host without a command, which was probably meant as a router; None without a gap."""
+    """Finds the first two hosts without a route between them, because a host with links to both doesn't forward packets.
+    Considers only hosts between that have no command and aren't the main host, since such a host was probably meant as a router.
+    Returns None if there are no such hosts."""
     links = links_by_host(net)
     for name, host in net.hosts.items():
         others = list(dict.fromkeys(other for _, other in links[name]))

@@ -52,7 +52,8 @@ class Course:
         self.longest.clear()
 
     def hold(self, until: int) -> Optional[LineEvent]:
-        """Returns the hold that ends last among the holds that begin before a moment; None without such holds."""
+        """Returns the hold, an outage that keeps packets waiting, that ends last among the holds that begin before the moment
+        `until`; None if no hold begins before."""
         if not self.longest:
             self.longest += accumulate(self.holds, lambda longest, hold: hold if hold.end > longest.end else longest)
         before = bisect_left(self.holds, (until,))

@@ -16,8 +16,8 @@ WORD = 6  # the place of a packet's random word
 
 
 class OfDraws(OfHosts):
-    """Judges what the seed drew for packets. A packet's word is the random number that decides whether the link loses the
-    packet."""
+    """Checks the random numbers, second passes and flipped bits in a transcript against the seed, the models and the chosen
+    packets. A packet's word is the random number that decides whether the link loses the packet."""
 
     def __init__(self, meaning: Meaning, limit: int) -> None:
         """Acts on hosts may be late by the limit, in ns."""
@@ -81,8 +81,8 @@ class OfDraws(OfHosts):
         return {LOSS, word} if may_be_lost else {word}
 
     def passed_again(self, moment: int, pipe: Target, number: str) -> None:
-        """Reports a packet on its second pass without the drawn or chosen delay. Packets begin the second pass in the order in
-        which they left the first."""
+        """Reports a packet whose second pass has another delay than was drawn or chosen, or has a delay that no line requests.
+        Packets begin the second pass in the order in which they left the first."""
         delay = self.delay(pipe) // MS
         way = self.way_of.get(pipe[1])
         if way in self.meaning.undrawn or way is None and self.meaning.undrawn:

@@ -19,7 +19,7 @@ UDP = "17"  # a protocol that no kernel sends by itself
 
 
 class Broken(NamedTuple):
-    """A fault of the transcript, at a moment in ns."""
+    """Describes a contradiction between a transcript and the net's file, at a moment in ns."""
 
     moment: int
     text: str

@@ -133,7 +133,8 @@ class Parts:
 
     @cached_property
     def pipe(self) -> Integers:
-        """The number of the pipe that carries each row, or 0 without a pipe."""
+        """Returns, for each row of the history, the number of the pipe that carries the row's packet; 0 for a row without a
+        pipe."""
         return self.configuration.values(self.own, pipe_of)
 
     @cached_property

@@ -20,7 +20,8 @@ DIFFERENT = 1  # the exit status
 
 
 def write_table_json(source: Source, table: list[Figures], path: str) -> None:
-    """Writes the table as JSON; docs/CAPTURE.md describes its keys."""
+    """Writes the figures of a history's flows and pipes as JSON, with the seed and the host's lateness. docs/CAPTURE.md
+    describes the keys."""
     most = None
     if source.lateness:
         most = {kind: source.most_late(kind) for kind in KINDS}

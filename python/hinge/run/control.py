@@ -35,7 +35,7 @@ Obey = Callable[[str, int], Effect]
 
 
 def nobody(host: str) -> HostRoom:
-    """Refuses to open a host's room, in a run without rooms. Wrong: always."""
+    """Refuses to open a host's room (network namespace), in a run without hosts of its own. Wrong: every call raises it."""
     raise Wrong(f"{host!r}: it has no hosts of its own")
 
 

@@ -324,7 +324,7 @@ class Plan:
 
     @uncollected()
     def timeline(self, path: str) -> None:
-        """Adds the changes in a file; see `add_timeline`."""
+        """Adds a file's timed changes of pipes to the plan, from lines such as `5s 1Mbit/s 20ms`. Wrong: as in `add_timeline`."""
         from hinge.run.timelines import add_timeline
 
         add_timeline(self, path)

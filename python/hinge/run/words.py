@@ -203,7 +203,7 @@ def is_line(text: str) -> bool:
 
 
 def configures(line: str) -> bool:
-    """Returns whether a configuration line contains the word `config`."""
+    """Returns whether `config` is among the first four words of a configuration line."""
     return "config" in line.split()[:4]
 
 

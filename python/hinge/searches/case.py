@@ -42,7 +42,8 @@ class Case:
         return tuple(part for part in self.parts if part.kind == kind)
 
     def lines_left(self) -> "list[str]":
-        """Returns the lines, without the losses that were left out."""
+        """Returns the case's lines after a search has left out some losses: a line loses its words for losses, and disappears if
+        nothing else remains. Lines for single lost packets are joined at the end."""
         lossy = [part.what[0] for part in self.of_kind("losses")]
         lines = [line if line in lossy else lossless(line) for line in self.lines]
         single_losses = [line for line in lossy if line not in self.lines]
@@ -89,8 +90,8 @@ def joined_losses(losses: Iterable[str]) -> "list[str]":
 
 
 def faults_of(events: "list[TimedEvent]") -> Iterator[Part]:
-    """Yields a part for each fault and the events that end it, as lines `at`. Without a line from its group a fault would last for
-    ever, or an end would end no fault."""
+    """Groups the `at` lines of each fault and of the events that end the fault; yields each group as a removable part. The lines
+    stay together: a fault without its end would last for ever, and an end without its fault would end nothing."""
     groups = [{place} for place in range(len(events))]  # for each event, the places of all events in its group
     for place, end in fault_ends(events):
         groups[place] |= groups[end]

@@ -26,7 +26,7 @@ Tell = Callable[[str], None]
 
 
 class KeptPage(NamedTuple):
-    """Holds the page on which the link's program counted packets, after the run."""
+    """Holds a copy of the memory page in which the link's program counted packets, for reading after the run's end."""
 
     bytes_: bytes
 

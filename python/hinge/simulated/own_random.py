@@ -54,7 +54,8 @@ def segment_parts(file: BinaryIO, begin: int, length: int) -> Iterator[bytes]:
 
 
 def taken_by(file: BinaryIO) -> str:
-    """Returns the value for which the code in a file asks the processor directly; otherwise an empty text."""
+    """Describes the value that a program's code reads from the processor by an instruction, so that no seed can draw the value:
+    the processor's number, or random numbers without a check by `cpuid`. Returns an empty text if there is none."""
     has_random = False
     has_cpuid = False
     places = list(segments(file))

@@ -46,7 +46,8 @@ class Pauses(NamedTuple):
     given: "tuple[Given, ...]"
 
     def lines(self) -> Iterator[str]:
-        """Yields lines for the kernel. The first keeps the kernel from drawing pauses itself: 0 in 1 call, with the seed 0."""
+        """Yields lines that give the kernel the individually listed pauses. The first line, `0 1 0`, asks for no drawn pauses: 0
+        in 1 call, with the seed 0."""
         yield "0 1 0"
         for pause in self.given:
             line = f"{pause.call} {pause.where} {pause.ns}"

@@ -59,7 +59,8 @@ def backtraces(folder: Path, process: int, root: Optional[str]) -> "Iterator[tup
 
 
 def innermost(folder: Path, process: int, root: Optional[str]) -> str:
-    """Returns the place of the thread that ended a process."""
+    """Returns the innermost functions, with files and lines if known, of the thread that ended a process. Returns an empty text
+    if the process left no core or gdb fails."""
     return next((text for _, text in backtraces(folder, process, root)), "")
 
 

@@ -212,7 +212,8 @@ def own_words(item: pytest.Item) -> frozenset[str]:
 
 
 def shared_words(item: pytest.Item) -> dict[str, str]:
-    """Returns the words that only marks of a test's class or module contain, each with the place of the nearest such mark."""
+    """Returns the words (`link`, and the names in `vary`) that a test inherits from marks of its class or module and lacks in
+    its own marks. Each word comes with the node id of the nearest such mark."""
     own = own_words(item)
     places = dict[str, str]()
     for node, mark in item.iter_markers_with_node():

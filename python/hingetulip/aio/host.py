@@ -159,7 +159,8 @@ class Host:
         return True
 
     def take_of_group(self, datagram: Datagram) -> None:
-        """Delivers a group's datagram to all sockets at its port that accept it, if any socket here has joined the group."""
+        """Delivers a multicast or broadcast datagram to all sockets at its port that accept the datagram, if this host is up.
+        For a multicast datagram, a socket of this host must have joined the group."""
         group, port = datagram.target
         if self.is_up and (self.groups[group] or group == BROADCAST):
             for socket in list(self.sockets.get(port, ())):

@@ -26,7 +26,7 @@ class MemberEnd(SystemExit):
 
 
 def quiet(hook: Callable[[Any], object]) -> Callable[[Any], object]:
-    """Returns a hook for unhandled exceptions in threads that ignores `Ended`."""
+    """Returns a hook for unhandled exceptions in threads that ignores `MemberEnd`."""
     return lambda arguments: None if arguments.exc_type is MemberEnd else hook(arguments)
 
 

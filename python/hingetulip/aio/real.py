@@ -179,7 +179,9 @@ def install_hook() -> None:
 
 @contextmanager
 def real_refused(uses: RealUses, descriptors: Descriptors) -> Iterator[None]:
-    """Refuses real calls in the run's threads, and counts other real calls in `uses`, within the context."""
+    """Watches calls that leave the simulated time, such as system sockets and new processes, while the context lasts. In the
+    run's threads, system sockets are refused and `time.sleep`, `select` and `poll` are replaced; other calls are counted in
+    `uses`."""
     selecting = Selecting(descriptors)
     functions: dict[tuple[Any, str], Either] = {
         (time, "sleep"): ThreadFunctions(descriptors.loop.baton).sleep,

@@ -96,6 +96,7 @@ def odd_ethernet(path: Path) -> list[Expected]:
     """Ethernet with tags, PPPoE, IPv6 with an extension header, fragments, segments of length 0, and frames that aren't IP."""
     first, second = "192.0.2.1", "198.51.100.2"
     extended = struct.pack("!BBHI", 17, 0, 0, 0) + udp(4000, 4001, 60)
+    padding = struct.pack("!BBBBI", 17, 0, 1, 4, 0)
     quoted = b"\x03\x03" + bytes(6) + ip4(second, first, 17, udp(9, 10, 0))
     packets = [
         (ethernet(0x0806, bytes(28)), None),
@@ -112,6 +113,10 @@ def odd_ethernet(path: Path) -> list[Expected]:
         (
             ethernet(0x86DD, ip6("2001:db8::1", "2001:db8::2", 17, udp(1, 2, 300), length=0)),
             ("240.0.0.1", "240.0.0.2", 17, 0, 0, 348),
+        ),
+        (  # its padding ends where a port begins that looks like the option of a jumbogram
+            ethernet(0x86DD, ip6("2001:db8::1", "2001:db8::2", 0, padding + udp(0xC2C2, 2, 300), length=0)),
+            ("240.0.0.1", "240.0.0.2", 0, 0, 0, 356),
         ),
         (ethernet(0x0800, ip4(first, second, 6, tcp(1003, 443, 4000), length=0)), (first, second, 6, 1003, 443, 4040)),
     ]

@@ -120,7 +120,7 @@ def test_no_other_program_is_needed() -> None:
     alone = {**os.environ, "PATH": ""}
     done = run("packets", "odd.pcap", "-o", "alone.csv", env=alone)
     assert done.returncode == 0, done.stderr
-    assert len(rows_of(folder() / "alone.csv")) == 11
+    assert len(rows_of(folder() / "alone.csv")) == 12
     (folder() / "text.pcap").write_text("no capture")
     write(folder() / "other.pcap", 147, [(0, bytes(60))])
     without_times(folder() / "timeless.pcapng")

@@ -54,10 +54,10 @@ class Packets(unittest.TestCase):
         expected = odd_ethernet(folder() / "odd.pcap")
         rows = packets_of(folder() / "odd.pcap")
         self.assertEqual(expected_of(rows), expected)
-        # tshark's own counts have the packet of 28 bytes that an ICMP message quotes, and no payload of the IPv6
-        # segment of length 0
+        # tshark's own counts have the packet of 28 bytes that an ICMP message quotes, and no payload of the two IPv6
+        # segments of length 0
         count, total = tshark_totals(folder() / "odd.pcap")
-        self.assertEqual((count, total), (len(rows) + 1, sum(row.length for row in expected) + 28 - 308))
+        self.assertEqual((count, total), (len(rows) + 1, sum(row.length for row in expected) + 28 - 308 - 316))
 
     def test_interfaces_of_a_pcapng_and_other_links(self) -> None:
         expected = other_links(folder())
