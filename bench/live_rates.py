@@ -61,7 +61,7 @@ def main(rounds: int = 3, seconds: float = 3) -> None:
             for rate in (1000, 10000, 50000, 0):
                 for _ in range(rounds):
                     print(f"{rate or 'as fast as it goes':>6}{kept}: {packets(folder, rate, seconds, transcript)}", flush=True)
-            for link in ("5ms queue 10000", "10Gbit/s 1ms queue 10000"):
+            for link in ("5ms", "10Gbit/s 1ms queue 10000"):
                 for _ in range(rounds):
                     print(f"TCP, {link}{kept}: {tcp(folder, link, seconds, transcript)}", flush=True)
 
